@@ -1,0 +1,64 @@
+-- Which record is active, as the tests of the code decide it.
+-- Assumes nothing.
+use Prim.Native.Nat.{ℕ, _<_, _≤_}
+use mathlib.Core.Path.{_≡_, _∙_, refl, sym, ap}
+use mathlib.Core.Bool.{Bool, true, false, not}
+use mathlib.Core.List.{List, [], _∷_}
+use native.Mathlib.Nat.{not-suc-le-zero, le-of-suc-le-suc}
+use native.Mathlib.Omega.{arith}
+use lib.Dec.{ltb, eqb}
+use lib.ListN.{length, getD}
+use borrow.Author.Tests.{eq-eqb, ne-eqb, lt-ltb, le-ltb, not-true, not-false}
+use Prim.Native.Nat.{zero, suc}
+use Rattle.otadata.specs.declared.Reading.{Reading}
+use Rattle.otadata.specs.declared.Holder.{Holder}
+use Rattle.otadata.specs.declared.Holder.the-variants.{None, Sector}
+use Rattle.otadata.specs.Records.{usable, noReading}
+use Rattle.otadata.specs.Sectors.{recordIn, readings, sequenceIn, ofUsable, active, activeRecord}
+
+-- below the length, the default does not count
+default : (rs : List Reading) (k : ℕ) (d e : Reading) → k < length rs → getD rs k d ≡ getD rs k e
+default [] k d e l = absurd (not-suc-le-zero l)
+default (r ∷ rs) zero d e l = refl
+default (r ∷ rs) (suc k) d e l = default rs k d e (le-of-suc-le-suc l)
+
+module _ (rs : List Reading) (size : length rs ≡ 2) (d : Reading) where
+  by-readings :
+      active rs ≡ ofUsable (usable (getD rs 0 d)) (usable (getD rs 1 d)) (ltb (sequenceIn (getD rs 0 d .verdict)) (sequenceIn (getD rs 1 d .verdict)))
+  unfolding active
+  by-readings = simp (default rs 0 noReading d (omega arith), default rs 1 noReading d (omega arith))
+
+  module _ (t0 : Bool) (tested0 : t0 ≡ usable (getD rs 0 d)) (t1 : Bool) (tested1 : t1 ≡ usable (getD rs 1 d)) where
+    pub neither-usable : not t0 ≡ true → t1 ≡ false → None ≡ active rs
+    neither-usable n0 n1 = sym (by-readings ∙ simp (← tested0, ← tested1, not-true t0 n0, n1))
+
+    pub second-usable : not t0 ≡ true → t1 ≡ true → Sector 1 ≡ active rs
+    second-usable n0 y1 = sym (by-readings ∙ simp (← tested0, ← tested1, not-true t0 n0, y1))
+
+    pub first-usable : not t0 ≡ false → not t1 ≡ true → Sector 0 ≡ active rs
+    first-usable y0 n1 = sym (by-readings ∙ simp (← tested0, ← tested1, not-false t0 y0, not-true t1 n1))
+
+    module _ (y0 : not t0 ≡ false) (y1 : not t1 ≡ false)
+        (q0 : ℕ) (read0 : q0 ≡ sequenceIn (getD rs 0 d .verdict)) (q1 : ℕ) (read1 : q1 ≡ sequenceIn (getD rs 1 d .verdict)) where
+      pub second-higher : q0 < q1 → Sector 1 ≡ active rs
+      second-higher l =
+          sym (by-readings ∙ simp (← tested0, ← tested1, not-false t0 y0, not-false t1 y1, ← read0, ← read1, lt-ltb _ _ l))
+
+      pub first-higher : q1 ≤ q0 → Sector 0 ≡ active rs
+      first-higher l =
+          sym (by-readings ∙ simp (← tested0, ← tested1, not-false t0 y0, not-false t1 y1, ← read0, ← read1, le-ltb _ _ l))
+
+-- ---- the active record's bytes
+
+module _ (first second : List ℕ) (rs : List Reading) (both : rs ≡ readings first second) (h : Holder) (found : h ≡ active rs) where
+  pub none-active : h ≡ None → [] ≡ activeRecord first second
+  unfolding activeRecord
+  none-active e = simp (← both, ← found, e)
+
+  pub first-active : (k : ℕ) → h ≡ Sector k → k ≡ 0 → (r : List ℕ) → r ≡ recordIn first → r ≡ activeRecord first second
+  unfolding activeRecord
+  first-active k e z r er = er ∙ simp (← both, ← found, e, eq-eqb _ _ z)
+
+  pub second-active : (k : ℕ) → h ≡ Sector k → (k ≡ 0 → ⊥) → (r : List ℕ) → r ≡ recordIn second → r ≡ activeRecord first second
+  unfolding activeRecord
+  second-active k e n r er = er ∙ simp (← both, ← found, e, ne-eqb _ _ n)

@@ -1,0 +1,29 @@
+-- `otadata::records::make` meets its contract: what the fields make is tested, and the test decides the answer.
+-- Assumes nothing.
+use borrow.Author.Needs.{needs}
+use Rattle.otadata.proofs.Making.{not-made, is-made}
+use Rattle.otadata.proofs.records.make.Statement.{statement}
+use Rattle.otadata.proofs.records.make.Tie as tie
+use Rattle.otadata.proofs.records.make.Reads as reads
+use Rattle.otadata.proofs.records.make.Lts as lts
+use Rattle.otadata.proofs.records.fields.Reads as fields-reads
+use Rattle.otadata.proofs.records.good.Reads as good-reads
+
+fields-requires : tie.Need-fields-requires
+fields-requires c κs = search needs
+
+slice-aggregate-good : tie.Need-slice-aggregate-good
+slice-aggregate-good c = search needs
+
+good-requires : tie.Need-good-requires
+good-requires c κs = search needs
+
+returns : tie.Need-returns
+returns c = search not-made
+
+returns-2 : tie.Need-returns-2
+returns-2 c = search is-made
+
+pub make-spec : {M : Type 1} → statement M
+make-spec =
+    tie.close (tie.spec fields-requires slice-aggregate-good good-requires returns returns-2)

@@ -1,0 +1,23 @@
+-- `otadata::sectors::read_sector` meets its contract: it reads the record of the sector.
+-- Assumes nothing.
+use borrow.Author.Needs.{needs}
+use mathlib.Core.Path.{_∙_, ap}
+use Rattle.otadata.specs.Records.{reading}
+use Rattle.otadata.proofs.sectors.read_sector.Statement.{statement}
+use Rattle.otadata.proofs.sectors.read_sector.Tie as tie
+use Rattle.otadata.proofs.sectors.read_sector.Reads as reads
+use Rattle.otadata.proofs.sectors.read_sector.Lts as lts
+use Rattle.otadata.proofs.records.read.Reads as read-reads
+use Rattle.otadata.proofs.sectors.record_part.Reads as record-part-reads
+
+record-part-requires : tie.Need-record-part-requires
+record-part-requires c κs = search needs
+
+read-requires : tie.Need-read-requires
+read-requires c κs = search needs
+
+returns : tie.Need-returns
+returns c = c .read .ensures ∙ ap reading (c .before .record-part .ensures)
+
+pub read-sector-spec : {M : Type 1} → statement M
+read-sector-spec = tie.close (tie.spec record-part-requires read-requires returns)

@@ -1,0 +1,74 @@
+-- `otadata::sectors::rewrite` meets its contract: after m turns the sector is that of the rewrite cut at m.
+-- Assumes nothing.
+use Prim.Native.Nat.{_≤_, _-_}
+use mathlib.Core.Path.{_≡_, sym}
+use native.Mathlib.Omega.{arith}
+use borrow.Author.Needs.{needs}
+use denote.Ref.{now}
+use lib.ListN.{length}
+use Rattle.otadata.specs.Sectors.{cut}
+use Rattle.otadata.proofs.Stores.{no-sector, no-record, rewrite-of-wrong-size, cut-none, rewrite-turn, rewrite-end}
+use Rattle.otadata.proofs.sectors.rewrite.Statement.{statement}
+use Rattle.otadata.proofs.sectors.rewrite.Tie as tie
+use Rattle.otadata.proofs.sectors.rewrite.Reads as reads
+use Rattle.otadata.proofs.sectors.rewrite.Lts as lts
+use Rattle.otadata.proofs.sectors.store.Reads as store-reads
+
+abbrev Inv-loop : tie.InvT-loop
+Inv-loop sector₀ rec m₀ sector m = (m ≤ 4128) × (length sector ≡ 4096) × (sector ≡ cut rec m sector₀)
+
+abbrev μ-loop : tie.MeasureT-loop
+μ-loop sector₀ rec m₀ sector m = 4128 - m
+
+returns : tie.Need-returns Inv-loop μ-loop
+returns c = search (rewrite-of-wrong-size, no-sector)
+
+returns-2 : tie.Need-returns-2 Inv-loop μ-loop
+returns-2 c = search (rewrite-of-wrong-size, no-record)
+
+loop-holds : tie.Need-loop-holds Inv-loop μ-loop
+loop-holds c = (search needs, c .before .if1 .left, sym (cut-none _ _))
+
+store-requires : tie.Need-store-requires Inv-loop μ-loop
+store-requires c κs = search needs
+
+add-m : tie.Need-add-m Inv-loop μ-loop
+add-m c = omega arith
+
+loop-less : tie.Need-loop-less Inv-loop μ-loop
+loop-less c = omega arith
+
+loop-again : tie.Need-loop-again Inv-loop μ-loop
+loop-again c =
+    let call = c .before .before .store in
+    let turn = c .before .before .before .before in
+    let at = turn .before .loop in
+    let sizes = turn .before .before in
+    let a = sizes .before .before .before .before .args in (
+      omega arith,
+      omega (arith, call .kept),
+      rewrite-turn (now (a .sector)) (now (a .rec)) (at .sector) (at .m) (at .inv .2) (at .inv .1) (sizes .if2 .left) (turn .loop-test .taken)
+          (call .result) (call .last .0) (call .ensures),
+    )
+
+same-length : tie.Need-same-length Inv-loop μ-loop
+same-length c = omega arith
+
+returns-3 : tie.Need-returns-3 Inv-loop μ-loop
+returns-3 c = search rewrite-end
+
+pub rewrite-spec : {M : Type 1} → statement M
+rewrite-spec =
+    tie.close
+    (tie.spec
+    Inv-loop
+    μ-loop
+    returns
+    returns-2
+    loop-holds
+    store-requires
+    add-m
+    loop-less
+    loop-again
+    same-length
+    returns-3)

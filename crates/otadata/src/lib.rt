@@ -1,0 +1,57 @@
+// The otadata layer: the records in the two otadata sectors, how they are read, made and rewritten.
+mod records;
+mod sectors;
+mod words;
+
+pub use records::good;
+pub use records::make;
+pub use records::read;
+pub use records::usable;
+pub use sectors::active;
+pub use sectors::active_record;
+pub use sectors::read_sector;
+pub use sectors::readings;
+pub use sectors::record_part;
+pub use sectors::rewrite;
+pub use sectors::store;
+pub use words::check_word;
+
+// The sequence number of a record.
+pub struct Sequence(pub u32);
+
+// The number of an OTA slot.
+pub struct Slot(pub u32);
+
+// The state of a good record.
+pub enum State {
+    New,
+    Pending,
+    Valid,
+    Invalid,
+    Aborted,
+    Undefined,
+}
+
+// What a record's bytes are found to be. Only a good record has a sequence and a state.
+pub enum Verdict {
+    None,
+    Good(Sequence, State),
+}
+
+// A record as read. The label is zero where the record is not good.
+pub struct Reading {
+    pub verdict: Verdict,
+    pub label: [u8; 20],
+}
+
+// A record as made: 0 and its 32 bytes, or 17 and 32 zero bytes.
+pub struct Made {
+    pub number: u32,
+    pub rec: [u8; 32],
+}
+
+// The number of the sector that holds a record, or none.
+pub enum Holder {
+    None,
+    Sector(usize),
+}

@@ -1,0 +1,194 @@
+// A record: when it is good, what it reads as, and how one is made.
+ghost use mathlib.Core.Path.{_≡_};
+ghost use mathlib.Core.List.{List};
+ghost use Prim.Native.Nat.{ℕ, _+_, _≤_, _<_};
+ghost use lib.ListN.{length, getD};
+ghost use Rattle.otadata.specs.Words.{checkWord};
+ghost use Rattle.otadata.specs.Records.{stateWord, isState, stateOf, isSequence, labelField, noReading, reading, usable as Records·usable, recordOf, made};
+ghost use Rattle.otadata.specs.Records.{good as Records·good, namesSlot};
+use crate::Made;
+use crate::Reading;
+use crate::Sequence;
+use crate::Slot;
+use crate::State;
+use crate::Verdict;
+use crate::words::byte_of;
+use crate::words::check_word;
+use crate::words::word_at;
+
+impl State {
+    // The word that stands for the state in a record.
+    pub fn word(self) -> u32
+        ensures { λ r. ⌜ r ≡ stateWord self ⌝ }
+    {
+        match self {
+            State::New => 0,
+            State::Pending => 1,
+            State::Valid => 2,
+            State::Invalid => 3,
+            State::Aborted => 4,
+            State::Undefined => 0xFFFF_FFFF,
+        }
+    }
+}
+
+impl Sequence {
+    // The slot that a good record of this sequence names, with n slots.
+    pub fn slot(self, n: u32) -> Slot
+        ensures { λ r. ⌜ r .0 ≡ namesSlot n (self .0) ⌝ }
+    {
+        let sequence = self.0;
+        if n == 0 {
+            return Slot(0);
+        }
+        if sequence == 0 {
+            return Slot(0);
+        }
+        Slot((sequence - 1) % n)
+    }
+}
+
+// Whether the 32 bytes are a good record. Bytes of another length are none.
+pub fn good(rec: &[u8]) -> bool
+    ensures { λ r. ⌜ r ≡ Records·good (now (rec .entry)) ⌝ }
+{
+    if rec.len() != 32 {
+        return false;
+    }
+    let sequence = word_at(rec, 0);
+    if !is_sequence(sequence) {
+        return false;
+    }
+    if word_at(rec, 28) != check_word(Sequence(sequence)) {
+        return false;
+    }
+    is_state(word_at(rec, 24))
+}
+
+fn is_sequence(word: u32) -> bool
+    ensures { λ r. ⌜ r ≡ isSequence word ⌝ }
+{
+    if word < 1 {
+        return false;
+    }
+    word <= 4294967294
+}
+
+fn is_state(word: u32) -> bool
+    ensures { λ r. ⌜ r ≡ isState word ⌝ }
+{
+    if word <= 4 {
+        return true;
+    }
+    word == 0xFFFF_FFFF
+}
+
+fn state_of(word: u32) -> State
+    ensures { λ r. ⌜ r ≡ stateOf word ⌝ }
+{
+    match word {
+        0 => State::New,
+        1 => State::Pending,
+        2 => State::Valid,
+        3 => State::Invalid,
+        4 => State::Aborted,
+        _ => State::Undefined,
+    }
+}
+
+// The record in these bytes, or none.
+pub fn read(rec: &[u8]) -> Reading
+    ensures { λ r. ⌜ r ≡ reading (now (rec .entry)) ⌝ }
+{
+    if !good(rec) {
+        return no_reading();
+    }
+    let sequence = Sequence(word_at(rec, 0));
+    let state = state_of(word_at(rec, 24));
+    let label = label_of(rec);
+    Reading {
+        verdict: Verdict::Good(sequence, state),
+        label,
+    }
+}
+
+pub(crate) fn no_reading() -> Reading
+    ensures { λ r. ⌜ r ≡ noReading ⌝ }
+{
+    Reading {
+        verdict: Verdict::None,
+        label: [0; 20],
+    }
+}
+
+fn label_of(rec: &[u8]) -> [u8; 20]
+    requires { ⌜ length (now rec) ≡ 32 ⌝ }
+    ensures { λ r. ⌜ r ≡ labelField (now (rec .entry)) ⌝ }
+{
+    let mut label = [0u8; 20];
+    for i in 0..20usize {
+        label[i] = rec[4 + i];
+    }
+    label
+}
+
+// Whether the record may be started: good, and neither invalid nor aborted.
+pub fn usable(reading: Reading) -> bool
+    ensures { λ r. ⌜ r ≡ Records·usable reading ⌝ }
+{
+    let verdict = reading.verdict;
+    match verdict {
+        Verdict::None => false,
+        Verdict::Good(_, state) => match state {
+            State::Invalid => false,
+            State::Aborted => false,
+            State::New => true,
+            State::Pending => true,
+            State::Valid => true,
+            State::Undefined => true,
+        },
+    }
+}
+
+// Makes the record of a sequence, a label and a state word.
+pub fn make(sequence: Sequence, label: [u8; 20], state: u32) -> Made
+    ensures { λ r. ⌜ r ≡ made (sequence .0) label state ⌝ }
+{
+    let rec = fields(sequence, label, state);
+    if !good(&rec) {
+        return Made {
+            number: 17,
+            rec: [0; 32],
+        };
+    }
+    Made { number: 0, rec }
+}
+
+// The 32 bytes of the fields.
+fn fields(sequence: Sequence, label: [u8; 20], state: u32) -> [u8; 32]
+    ensures { λ r. ⌜ r ≡ recordOf (sequence .0) label state ⌝ }
+{
+    let check = check_word(sequence);
+    let mut rec = [0u8; 32];
+    for i in 0..32usize {
+        rec[i] = field_byte(sequence, label, state, check, i);
+    }
+    rec
+}
+
+// Byte i of the fields.
+fn field_byte(sequence: Sequence, label: [u8; 20], state: u32, check: u32, i: usize) -> u8
+    requires { ⌜ (i < 32) × (check ≡ checkWord (sequence .0)) ⌝ }
+    ensures { λ r. ⌜ r ≡ getD (recordOf (sequence .0) label state) i 0 ⌝ }
+{
+    if i < 4 {
+        return byte_of(sequence.0, i);
+    }
+    if i < 24 {
+        return label[i - 4];
+    }
+    if i < 28 {
+        return byte_of(state, i - 24);
+    }
+    byte_of(check, i - 28)
+}

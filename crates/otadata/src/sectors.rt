@@ -1,0 +1,120 @@
+// The two otadata sectors: reading them, the active record, and rewriting one.
+ghost use mathlib.Core.Path.{_≡_};
+ghost use lib.ListN.{length};
+ghost use Rattle.otadata.specs.Sectors.{recordIn, sectorReading, readings as Sectors·readings, sequenceIn, active as Sectors·active, activeRecord};
+ghost use Rattle.otadata.specs.Sectors.{reply, singleStore, rewrite as Sectors·rewrite};
+use crate::Holder;
+use crate::Reading;
+use crate::Sequence;
+use crate::Verdict;
+use crate::records::read;
+use crate::records::usable;
+
+// The record of a sector: its first 32 bytes, or an empty part of bytes that are no sector.
+pub fn record_part(sector: &[u8]) -> &[u8]
+    ensures { λ r. ⌜ now r ≡ recordIn (now (sector .entry)) ⌝ }
+{
+    if sector.len() != 4096 {
+        return &sector[..0];
+    }
+    &sector[..32]
+}
+
+// What a sector reads as.
+pub fn read_sector(sector: &[u8]) -> Reading
+    ensures { λ r. ⌜ r ≡ sectorReading (now (sector .entry)) ⌝ }
+{
+    read(record_part(sector))
+}
+
+// What both sectors read as, indexed by sector number.
+pub fn readings(first: &[u8], second: &[u8]) -> [Reading; 2]
+    ensures { λ r. ⌜ r ≡ Sectors·readings (now (first .entry)) (now (second .entry)) ⌝ }
+{
+    [read_sector(first), read_sector(second)]
+}
+
+// Which of the two readings is the active record.
+pub fn active(readings: [Reading; 2]) -> Holder
+    ensures { λ r. ⌜ r ≡ Sectors·active readings ⌝ }
+{
+    let first = readings[0];
+    let second = readings[1];
+    if !usable(first) {
+        if usable(second) {
+            return Holder::Sector(1);
+        }
+        return Holder::None;
+    }
+    if !usable(second) {
+        return Holder::Sector(0);
+    }
+    if sequence_of(first) < sequence_of(second) {
+        return Holder::Sector(1);
+    }
+    Holder::Sector(0)
+}
+
+// The sequence of a good record, and 0 of none.
+fn sequence_of(reading: Reading) -> u32
+    ensures { λ r. ⌜ r ≡ sequenceIn (reading .verdict) ⌝ }
+{
+    let verdict = reading.verdict;
+    match verdict {
+        Verdict::None => 0,
+        Verdict::Good(sequence, _) => sequence.0,
+    }
+}
+
+// The active record's 32 bytes, as a part of the sector that holds it, or an empty part.
+pub fn active_record<'a>(first: &'a [u8], second: &'a [u8]) -> &'a [u8]
+    ensures { λ r. ⌜ now r ≡ activeRecord (now (first .entry)) (now (second .entry)) ⌝ }
+{
+    let holder = active(readings(first, second));
+    match holder {
+        Holder::None => &first[..0],
+        Holder::Sector(k) => if k == 0 {
+            record_part(first)
+        } else {
+            record_part(second)
+        },
+    }
+}
+
+// Store m of a rewrite of the sector with the record.
+pub fn store(sector: &mut [u8], rec: &[u8], m: usize) -> u32
+    ensures { λ r. ⌜ reply r (now (sector .exit)) ≡ singleStore (now (sector .entry)) (now (rec .entry)) m ⌝ }
+{
+    if sector.len() != 4096 {
+        return 2;
+    }
+    if rec.len() != 32 {
+        return 2;
+    }
+    if m >= 4128 {
+        return 12;
+    }
+    if m < 4096 {
+        sector[m] = 0xFF;
+        return 0;
+    }
+    let at = 31 - (m - 4096);
+    sector[at] = rec[at];
+    0
+}
+
+// A whole rewrite of the sector with the record: the single store, from 0 to 4,127.
+pub fn rewrite(sector: &mut [u8], rec: &[u8]) -> u32
+    ensures { λ r. ⌜ reply r (now (sector .exit)) ≡ Sectors·rewrite (now (sector .entry)) (now (rec .entry)) ⌝ }
+{
+    if sector.len() != 4096 {
+        return 2;
+    }
+    if rec.len() != 32 {
+        return 2;
+    }
+    for m in 0..4128usize {
+        store(sector, rec, m);
+    }
+    0
+}

@@ -1,0 +1,57 @@
+// Little-endian words, and the check word of a sequence.
+ghost use mathlib.Core.Path.{_≡_};
+ghost use Prim.Native.Nat.{_+_, _≤_, _<_};
+ghost use lib.Bits.{bitXor};
+ghost use lib.ListN.{length};
+ghost use Rattle.otadata.specs.Words.{word, byteOf, shift as Words·shift, checkWord};
+use crate::Sequence;
+
+const POLYNOMIAL: u32 = 0xEDB8_8320;
+
+// The check word of a sequence.
+pub fn check_word(sequence: Sequence) -> u32
+    ensures { λ r. ⌜ r ≡ checkWord (sequence .0) ⌝ }
+{
+    let mut register: u32 = 0;
+    let mut rest = sequence.0;
+    for _ in 0..32u32 {
+        register = shift(register ^ (rest % 2));
+        rest = rest / 2;
+    }
+    0xFFFF_FFFF - register
+}
+
+// One step of the register.
+fn shift(register: u32) -> u32
+    ensures { λ r. ⌜ r ≡ Words·shift register ⌝ }
+{
+    if register % 2 == 0 {
+        return register / 2;
+    }
+    (register / 2) ^ POLYNOMIAL
+}
+
+fn wide(byte: u8) -> u32
+    ensures { λ r. ⌜ (r ≡ byte) × (r < 256) ⌝ }
+{
+    byte as u32
+}
+
+// The word in the four bytes from `at`.
+pub(crate) fn word_at(bytes: &[u8], at: usize) -> u32
+    requires { ⌜ at + 4 ≤ length (now bytes) ⌝ }
+    ensures { λ r. ⌜ r ≡ word (now (bytes .entry)) at ⌝ }
+{
+    wide(bytes[at])
+        + 256 * wide(bytes[at + 1])
+        + 65536 * wide(bytes[at + 2])
+        + 16777216 * wide(bytes[at + 3])
+}
+
+// Byte i of a word.
+pub(crate) fn byte_of(word: u32, i: usize) -> u8
+    requires { ⌜ i < 4 ⌝ }
+    ensures { λ r. ⌜ r ≡ byteOf word i ⌝ }
+{
+    ((word >> (8 * i)) % 256) as u8
+}
