@@ -12,7 +12,7 @@ use Rattle.otadata.specs.Records.{labelField, recordOf}
 -- ---- parts of a list
 
 -- what holds of 0 to 3 holds of every number below 4
-below-four : (P : ℕ → Type 0) → P 0 → P 1 → P 2 → P 3 → (i : ℕ) → i < 4 → P i
+pub below-four : (P : ℕ → Type 0) → P 0 → P 1 → P 2 → P 3 → (i : ℕ) → i < 4 → P i
 below-four P p0 p1 p2 p3 zero l = p0
 below-four P p0 p1 p2 p3 (suc zero) l = p1
 below-four P p0 p1 p2 p3 (suc (suc zero)) l = p2

@@ -1,8 +1,10 @@
 pub mod Activity
 pub mod CheckWord
+pub mod Cuts
 pub mod Filled
 pub mod Goodness
 pub mod Making
+pub mod ReadingLaw
 pub mod Stores
 pub mod Examples
 pub mod Fields
