@@ -9,12 +9,8 @@ use native.Mathlib.Omega.{arith}
 use lib.ListN.{length, getD, set, length-set}
 use lib.Seq.{getD-set-same, getD-set-other}
 use Rattle.otadata.specs.Sectors.{stored, cut}
+use Rattle.otadata.proofs.Numbers.{le-or-lt}
 use Rattle.otadata.proofs.Stores.{erases, programs, cut-none, cut-suc}
-
-pub le-or-lt : (a b : ℕ) → (a ≤ b) ⊎ (b < a)
-le-or-lt zero b = inl (omega arith)
-le-or-lt (suc a) zero = inr (omega arith)
-le-or-lt (suc a) (suc b) = ⊎-elim (λ (l : a ≤ b). inl (omega arith)) (λ (l : b < a). inr (omega arith)) (le-or-lt a b)
 
 -- an element of a list after a store at i, at i and elsewhere
 set-here : (l : List ℕ) (i v j : ℕ) → i < length l → j ≡ i → getD (set l i v) j 0 ≡ v

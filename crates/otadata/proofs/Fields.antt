@@ -8,16 +8,9 @@ use lib.ListN.{length, getD, take, drop, length-take, length-drop, length-append
 use lib.Seq.{getD-take, getD-drop, getD-append-add}
 use Rattle.otadata.specs.Words.{word, byteOf, bytesOf, checkWord}
 use Rattle.otadata.specs.Records.{labelField, recordOf}
+use Rattle.otadata.proofs.Numbers.{below-four}
 
 -- ---- parts of a list
-
--- what holds of 0 to 3 holds of every number below 4
-pub below-four : (P : ℕ → Type 0) → P 0 → P 1 → P 2 → P 3 → (i : ℕ) → i < 4 → P i
-below-four P p0 p1 p2 p3 zero l = p0
-below-four P p0 p1 p2 p3 (suc zero) l = p1
-below-four P p0 p1 p2 p3 (suc (suc zero)) l = p2
-below-four P p0 p1 p2 p3 (suc (suc (suc zero))) l = p3
-below-four P p0 p1 p2 p3 (suc (suc (suc (suc i)))) l = absurd (omega arith)
 
 byte-here : (w i : ℕ) (tail : List ℕ) → i < 4 → getD (bytesOf w ++ tail) i 0 ≡ byteOf w i
 byte-here w i tail l = below-four (λ (k : ℕ). getD (bytesOf w ++ tail) k 0 ≡ byteOf w k) refl refl refl refl i l

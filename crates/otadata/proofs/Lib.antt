@@ -4,7 +4,9 @@ pub mod Cuts
 pub mod Filled
 pub mod Goodness
 pub mod Making
+pub mod Numbers
 pub mod ReadingLaw
+pub mod RoundTrip
 pub mod Stores
 pub mod Examples
 pub mod Fields

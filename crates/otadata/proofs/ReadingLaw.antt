@@ -17,9 +17,9 @@ use Rattle.otadata.specs.Records.{sequenceField, checkField, good}
 use Rattle.otadata.specs.Sectors.{recordIn, blank, readsAs, cut, reply, sized, singleStore, rewrite}
 use Rattle.otadata.specs.PowerCut.{bytes, Call, rewriteCut, storeRefused, rewriteRefused, refused, allowed, leaves, after, allAllowed, Last, none, last, noted, lastOf, History, Reads, ReadingLaw}
 use Rattle.otadata.proofs.CheckWord.{check-word-one-to-one}
-use Rattle.otadata.proofs.Fields.{below-four}
 use Rattle.otadata.proofs.Goodness.{IsGood, is-good}
-use Rattle.otadata.proofs.Cuts.{le-or-lt, cut-length, erased, kept, programmed, unprogrammed}
+use Rattle.otadata.proofs.Numbers.{le-or-lt, below-four}
+use Rattle.otadata.proofs.Cuts.{cut-length, erased, kept, programmed, unprogrammed}
 
 -- ---- what a sector reads as
 

@@ -3,7 +3,6 @@ mod records;
 mod sectors;
 mod words;
 
-pub use records::good;
 pub use records::make;
 pub use records::read;
 pub use records::usable;
@@ -11,7 +10,6 @@ pub use sectors::active;
 pub use sectors::active_record;
 pub use sectors::read_sector;
 pub use sectors::readings;
-pub use sectors::record_part;
 pub use sectors::rewrite;
 pub use sectors::store;
 pub use words::check_word;

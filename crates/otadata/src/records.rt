@@ -49,7 +49,7 @@ impl Sequence {
 }
 
 // Whether the 32 bytes are a good record. Bytes of another length are none.
-pub fn good(rec: &[u8]) -> bool
+fn good(rec: &[u8]) -> bool
     ensures { λ r. ⌜ r ≡ Records·good (now (rec .entry)) ⌝ }
 {
     if rec.len() != 32 {

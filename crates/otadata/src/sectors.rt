@@ -11,7 +11,7 @@ use crate::records::read;
 use crate::records::usable;
 
 // The record of a sector: its first 32 bytes, or an empty part of bytes that are no sector.
-pub fn record_part(sector: &[u8]) -> &[u8]
+fn record_part(sector: &[u8]) -> &[u8]
     ensures { λ r. ⌜ now r ≡ recordIn (now (sector .entry)) ⌝ }
 {
     if sector.len() != 4096 {
