@@ -17,7 +17,7 @@ use Rattle.otadata.specs.Records.{usable, noReading}
 use Rattle.otadata.specs.Sectors.{recordIn, readings, sequenceIn, ofUsable, active, activeRecord}
 
 -- below the length, the default does not count
-default : (rs : List Reading) (k : ℕ) (d e : Reading) → k < length rs → getD rs k d ≡ getD rs k e
+pub default : (rs : List Reading) (k : ℕ) (d e : Reading) → k < length rs → getD rs k d ≡ getD rs k e
 default [] k d e l = absurd (not-suc-le-zero l)
 default (r ∷ rs) zero d e l = refl
 default (r ∷ rs) (suc k) d e l = default rs k d e (le-of-suc-le-suc l)

@@ -1,0 +1,83 @@
+// The report on two otadata sectors, as text.
+mod buffer;
+
+ghost use mathlib.Core.Path.{_≡_};
+ghost use mathlib.Core.List.{_++_};
+ghost use Rattle.report_text.specs.Text.{textOf, content, Room};
+ghost use Rattle.report_text.specs.Report.{stateName, verdictText, sectorLine, activeLine, reportOf};
+use buffer::empty;
+use buffer::push_all;
+use buffer::push_decimal;
+use otadata::Holder;
+use otadata::Reading;
+use otadata::State;
+use otadata::Verdict;
+
+// A text: its first `len` bytes.
+pub struct Text {
+    pub bytes: [u8; 256],
+    pub len: usize,
+}
+
+// The report on the two readings.
+pub fn report(readings: [Reading; 2]) -> Text
+    ensures { λ r. ⌜ r ≡ textOf (reportOf readings) ⌝ }
+{
+    let first = readings[0];
+    let second = readings[1];
+    let holder = otadata::active(readings);
+    let heading = push_all(empty(), b"otadata report\n");
+    active_line(
+        sector_line(sector_line(heading, 0, first), 1, second),
+        holder,
+    )
+}
+
+fn sector_line(text: Text, k: u64, reading: Reading) -> Text
+    requires { ⌜ Room text 69 ⌝ }
+    ensures { λ r. ⌜ r ≡ textOf (content text ++ sectorLine k reading) ⌝ }
+{
+    let verdict = reading.verdict;
+    let number = push_decimal(push_all(text, b"sector "), k);
+    push_all(push_verdict(push_all(number, b" "), verdict), b"\n")
+}
+
+fn push_verdict(text: Text, verdict: Verdict) -> Text
+    requires { ⌜ Room text 40 ⌝ }
+    ensures { λ r. ⌜ r ≡ textOf (content text ++ verdictText verdict) ⌝ }
+{
+    match verdict {
+        Verdict::None => push_all(text, b"none"),
+        Verdict::Good(sequence, state) => {
+            let number = push_decimal(push_all(text, b"seq "), sequence.0 as u64);
+            push_state(push_all(number, b" state "), state)
+        }
+    }
+}
+
+fn push_state(text: Text, state: State) -> Text
+    requires { ⌜ Room text 9 ⌝ }
+    ensures { λ r. ⌜ r ≡ textOf (content text ++ stateName state) ⌝ }
+{
+    match state {
+        State::New => push_all(text, b"new"),
+        State::Pending => push_all(text, b"pending"),
+        State::Valid => push_all(text, b"valid"),
+        State::Invalid => push_all(text, b"invalid"),
+        State::Aborted => push_all(text, b"aborted"),
+        State::Undefined => push_all(text, b"undefined"),
+    }
+}
+
+fn active_line(text: Text, holder: Holder) -> Text
+    requires { ⌜ Room text 28 ⌝ }
+    ensures { λ r. ⌜ r ≡ textOf (content text ++ activeLine holder) ⌝ }
+{
+    match holder {
+        Holder::None => push_all(text, b"active none\n"),
+        Holder::Sector(k) => {
+            let number = push_decimal(push_all(text, b"active "), k as u64);
+            push_all(number, b"\n")
+        }
+    }
+}
