@@ -1,15 +1,12 @@
 -- Laws of the check word: how the register is fed bit by bit, and that no two 32-bit sequences have the same check word.
 -- Assumes nothing.
-use Prim.Native.Nat.{ℕ, zero, suc, _+_, _-_, _*_, _/_, _%_, _^_, _<_, _≤_, zero-le}
-use mathlib.Core.Path.{_≡_, refl, sym, ap, ap₂, _∙_, subst}
-use mathlib.Core.Bool.{Bool, true, false, cond}
+use Prim.Native.Nat.{ℕ, zero, suc, _+_, _-_, _*_, _/_, _%_, _^_, _<_, _≤_}
+use mathlib.Core.Path.{_≡_, refl, sym, ap, _∙_}
 use mathlib.Core.Logic.{_⊎_, inl, inr, ⊎-elim}
 use native.Mathlib.Nat.{add-assoc, two-pow-succ}
 use native.Mathlib.Omega.{arith}
 use lib.Arith.{bin-ind}
-use lib.Bits.{bitXor, differ, xor-step, xor-shr, xor-comm, xor-self, xor-zero-l, xor-zero-r, xor-lt, xor-shifted}
-use lib.Dec.{eqb}
-use lib.Pow.{pow-pos}
+use lib.Bits.{bitXor, differ, xor-step, xor-shr, xor-comm, xor-self, xor-zero-l, xor-zero-r, xor-lt}
 use borrow.Author.Tests.{eq-eqb, ne-eqb}
 use Rattle.otadata.specs.Words.{polynomial, shift, feeds, checkWord}
 

@@ -1,12 +1,12 @@
 -- Laws of a record's fields: the bytes of the fields put together, and the fields of the bytes.
 -- Assumes nothing.
-use Prim.Native.Nat.{ℕ, zero, suc, _+_, _-_, _*_, _<_, _≤_, _^_}
-use mathlib.Core.Path.{_≡_, _∙_, refl, sym, ap, subst}
-use mathlib.Core.List.{List, [], _∷_, _++_, append-assoc}
+use Prim.Native.Nat.{ℕ, _+_, _-_, _<_, _≤_}
+use mathlib.Core.Path.{_≡_, _∙_, refl, ap}
+use mathlib.Core.List.{List, [], _++_, append-assoc}
 use native.Mathlib.Omega.{arith}
-use lib.ListN.{length, getD, take, drop, length-take, length-drop, length-append, List·getD-append}
+use lib.ListN.{length, getD, drop, length-take, length-drop, length-append, List·getD-append}
 use lib.Seq.{getD-take, getD-drop, getD-append-add}
-use Rattle.otadata.specs.Words.{word, byteOf, bytesOf, checkWord}
+use Rattle.otadata.specs.Words.{byteOf, bytesOf, checkWord}
 use Rattle.otadata.specs.Records.{labelField, recordOf}
 use Rattle.otadata.proofs.Numbers.{below-four}
 

@@ -2,7 +2,7 @@
 -- What the list keeps true is `Sound`: the first four bytes are 0xFF, or the record is a good one with its first bytes, at most three of
 -- them, turned to 0xFF. The check word is one-to-one, so such a record reads as itself or as none.
 -- Assumes nothing.
-use Prim.Native.Nat.{ℕ, _+_, _-_, _*_, _^_, _<_, _≤_}
+use Prim.Native.Nat.{ℕ, _+_, _-_, _*_, _<_, _≤_}
 use mathlib.Core.Path.{_≡_, _∙_, refl, sym, ap, ap₂, subst}
 use mathlib.Core.Bool.{Bool, true, false, cond}
 use mathlib.Core.List.{List, [], _∷_}
@@ -12,12 +12,12 @@ use lib.Dec.{ltb}
 use lib.ListN.{length, getD, take, replicate, getD-replicate, List·getD-eq-default}
 use lib.Seq.{getD-take, length-take-le, ext-getD}
 use borrow.Author.Tests.{eq-eqb}
-use Rattle.otadata.specs.Words.{word, checkWord}
+use Rattle.otadata.specs.Words.{word}
 use Rattle.otadata.specs.Records.{sequenceField, checkField, good}
 use Rattle.otadata.specs.Sectors.{recordIn, blank, readsAs, cut, reply, sized, singleStore, rewrite}
 use Rattle.otadata.specs.PowerCut.{bytes, Call, rewriteCut, storeRefused, rewriteRefused, refused, allowed, leaves, after, allAllowed, Last, none, last, noted, lastOf, History, Reads, ReadingLaw}
 use Rattle.otadata.proofs.CheckWord.{check-word-one-to-one}
-use Rattle.otadata.proofs.Goodness.{IsGood, is-good}
+use Rattle.otadata.proofs.Goodness.{is-good}
 use Rattle.otadata.proofs.Numbers.{le-or-lt, below-four}
 use Rattle.otadata.proofs.Cuts.{cut-length, erased, kept, programmed, unprogrammed}
 

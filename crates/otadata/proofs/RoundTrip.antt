@@ -13,13 +13,11 @@ use lib.Seq.{ext-getD}
 use borrow.Author.Tests.{eqb-true, leb-true}
 use Rattle.otadata.specs.declared.Sequence.{Sequence}
 use Rattle.otadata.specs.declared.State.{State}
-use Rattle.otadata.specs.declared.State.the-variants.{New, Pending, Valid, Invalid, Aborted, Undefined}
-use Rattle.otadata.specs.declared.Verdict.{Verdict}
-use Rattle.otadata.specs.declared.Verdict.the-variants.{None, Good}
+use Rattle.otadata.specs.declared.Verdict.the-variants.{Good}
 use Rattle.otadata.specs.declared.Reading.{Reading}
 use Rattle.otadata.specs.declared.Made.{Made}
-use Rattle.otadata.specs.Words.{word, byteOf, checkWord}
-use Rattle.otadata.specs.Records.{sequenceField, labelField, stateField, checkField, stateWord, isState, stateOf, good, noReading, reading, recordOf, made}
+use Rattle.otadata.specs.Words.{word, byteOf}
+use Rattle.otadata.specs.Records.{sequenceField, labelField, stateField, stateWord, isState, stateOf, good, noReading, reading, recordOf, made}
 use Rattle.otadata.specs.PowerCut.{bytes}
 use Rattle.otadata.specs.RoundTrip.{MadeThenRead, ReadThenMade}
 use Rattle.otadata.proofs.Numbers.{le-or-lt, below-four}

@@ -1,11 +1,10 @@
 -- A record: its fields, when it is good, what it reads as, and how one is made.
 use Prim.Native.Nat.{ℕ, _-_, _%_}
 use mathlib.Core.Bool.{Bool, true, false, cond, _&&_, _||_}
-use mathlib.Core.List.{List, [], _∷_, _++_}
+use mathlib.Core.List.{List, _++_}
 use lib.Dec.{eqb, leb}
 use lib.ListN.{length, take, drop, replicate}
 use Rattle.otadata.specs.Words.{word, bytesOf, checkWord}
-use Rattle.otadata.specs.declared.Sequence.{Sequence}
 use Rattle.otadata.specs.declared.State.{State}
 use Rattle.otadata.specs.declared.State.the-variants.{New, Pending, Valid, Invalid, Aborted, Undefined}
 use Rattle.otadata.specs.declared.Verdict.{Verdict}

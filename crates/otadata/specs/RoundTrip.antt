@@ -7,7 +7,6 @@ use Rattle.otadata.specs.declared.Sequence.{Sequence}
 use Rattle.otadata.specs.declared.State.{State}
 use Rattle.otadata.specs.declared.Verdict.the-variants.{Good}
 use Rattle.otadata.specs.declared.Reading.{Reading}
-use Rattle.otadata.specs.declared.Made.{Made}
 use Rattle.otadata.specs.Records.{stateWord, reading, made}
 use Rattle.otadata.specs.PowerCut.{bytes}
 

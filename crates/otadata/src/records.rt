@@ -1,7 +1,6 @@
 // A record: when it is good, what it reads as, and how one is made.
 ghost use mathlib.Core.Path.{_≡_};
-ghost use mathlib.Core.List.{List};
-ghost use Prim.Native.Nat.{ℕ, _+_, _≤_, _<_};
+ghost use Prim.Native.Nat.{_+_, _<_};
 ghost use lib.ListN.{length, getD};
 ghost use Rattle.otadata.specs.Words.{checkWord};
 ghost use Rattle.otadata.specs.Records.{stateWord, isState, stateOf, isSequence, labelField, noReading, reading, usable as Records·usable, recordOf, made};

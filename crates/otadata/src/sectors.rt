@@ -1,11 +1,9 @@
 // The two otadata sectors: reading them, the active record, and rewriting one.
 ghost use mathlib.Core.Path.{_≡_};
-ghost use lib.ListN.{length};
 ghost use Rattle.otadata.specs.Sectors.{recordIn, sectorReading, readings as Sectors·readings, sequenceIn, active as Sectors·active, activeRecord};
 ghost use Rattle.otadata.specs.Sectors.{reply, singleStore, rewrite as Sectors·rewrite};
 use crate::Holder;
 use crate::Reading;
-use crate::Sequence;
 use crate::Verdict;
 use crate::records::read;
 use crate::records::usable;

@@ -1,7 +1,6 @@
 // Little-endian words, and the check word of a sequence.
 ghost use mathlib.Core.Path.{_≡_};
 ghost use Prim.Native.Nat.{_+_, _≤_, _<_};
-ghost use lib.Bits.{bitXor};
 ghost use lib.ListN.{length};
 ghost use Rattle.otadata.specs.Words.{word, byteOf, shift as Words·shift, checkWord};
 use crate::Sequence;

@@ -14,7 +14,7 @@ use Rattle.otadata.specs.declared.Holder.{Holder}
 use Rattle.otadata.specs.Records.{noReading}
 use Rattle.otadata.proofs.Activity.{default}
 use Rattle.report_text.specs.declared.Text.{Text}
-use Rattle.report_text.specs.Text.{ascii, textOf, content, decimal}
+use Rattle.report_text.specs.Text.{textOf, content}
 use Rattle.report_text.specs.Report.{stateName, verdictText, sectorLine, activeLine}
 use Rattle.report_text.proofs.Contents.{empty-content}
 use Rattle.report_text.proofs.Decimals.{decimal-length}

@@ -27,10 +27,9 @@ pub fn report(readings: [Reading; 2]) -> Text
     let second = readings[1];
     let holder = otadata::active(readings);
     let heading = push_all(empty(), b"otadata report\n");
-    active_line(
-        sector_line(sector_line(heading, 0, first), 1, second),
-        holder,
-    )
+    let one = sector_line(heading, 0, first);
+    let two = sector_line(one, 1, second);
+    active_line(two, holder)
 }
 
 fn sector_line(text: Text, k: u64, reading: Reading) -> Text

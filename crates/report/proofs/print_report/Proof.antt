@@ -6,11 +6,6 @@ use lib.Seq.{length-take-le}
 use Rattle.report_text.proofs.Contents.{within}
 use Rattle.report.proofs.print_report.Statement.{statement}
 use Rattle.report.proofs.print_report.Tie as tie
-use Rattle.report.proofs.print_report.Reads as reads
-use Rattle.report.proofs.print_report.Lts as lts
-use Rattle.io.proofs.write_all.Reads as write-all-reads
-use Rattle.otadata.proofs.readings.Reads as readings-reads
-use Rattle.report_text.proofs.report.Reads as report-reads
 
 readings-requires : tie.Need-readings-requires
 readings-requires c κs = search needs

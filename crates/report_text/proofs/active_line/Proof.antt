@@ -10,10 +10,6 @@ use Rattle.report_text.proofs.Decimals.{decimal-length}
 use Rattle.report_text.proofs.Lines.{of-holder}
 use Rattle.report_text.proofs.active_line.Statement.{statement}
 use Rattle.report_text.proofs.active_line.Tie as tie
-use Rattle.report_text.proofs.active_line.Reads as reads
-use Rattle.report_text.proofs.active_line.Lts as lts
-use Rattle.report_text.proofs.buffer.push_all.Reads as push-all-reads
-use Rattle.report_text.proofs.buffer.push_decimal.Reads as push-decimal-reads
 
 enum-told : tie.Need-enum-told
 enum-told c = search needs

@@ -16,13 +16,6 @@ use Rattle.report_text.proofs.Contents.{empty-room, Put, less-room, fir
 use Rattle.report_text.proofs.Lines.{of-reading, from-empty, line-length}
 use Rattle.report_text.proofs.report.Statement.{statement}
 use Rattle.report_text.proofs.report.Tie as tie
-use Rattle.report_text.proofs.report.Reads as reads
-use Rattle.report_text.proofs.report.Lts as lts
-use Rattle.otadata.proofs.active.Reads as active-reads
-use Rattle.report_text.proofs.active_line.Reads as active-line-reads
-use Rattle.report_text.proofs.buffer.empty.Reads as empty-reads
-use Rattle.report_text.proofs.buffer.push_all.Reads as push-all-reads
-use Rattle.report_text.proofs.sector_line.Reads as sector-line-reads
 
 array-copy-out-first : tie.Need-array-copy-out-first
 array-copy-out-first c = search needs

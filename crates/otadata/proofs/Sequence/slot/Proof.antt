@@ -6,8 +6,6 @@ use Rattle.otadata.specs.Records.{namesSlot}
 use borrow.Author.Needs.{needs}
 use Rattle.otadata.proofs.Sequence.slot.Statement.{statement}
 use Rattle.otadata.proofs.Sequence.slot.Tie as tie
-use Rattle.otadata.proofs.Sequence.slot.Reads as reads
-use Rattle.otadata.proofs.Sequence.slot.Lts as lts
 
 returns : tie.Need-returns
 unfolding namesSlot

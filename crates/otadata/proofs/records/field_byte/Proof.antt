@@ -8,9 +8,6 @@ use Rattle.otadata.proofs.Fields.{sequence-byte, label-byte, state-byte
 use borrow.Author.Needs.{needs}
 use Rattle.otadata.proofs.records.field_byte.Statement.{statement}
 use Rattle.otadata.proofs.records.field_byte.Tie as tie
-use Rattle.otadata.proofs.records.field_byte.Reads as reads
-use Rattle.otadata.proofs.records.field_byte.Lts as lts
-use Rattle.otadata.proofs.words.byte_of.Reads as byte-of-reads
 
 byte-of-requires : tie.Need-byte-of-requires
 byte-of-requires c κs = search needs

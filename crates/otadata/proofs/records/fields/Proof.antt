@@ -1,20 +1,16 @@
 -- `otadata::records::fields` meets its contract: after i turns the first i bytes are the record's.
 -- Assumes nothing.
-use Prim.Native.Nat.{ℕ, _≤_, _<_, _-_}
+use Prim.Native.Nat.{_≤_, _<_, _-_}
 use native.Mathlib.Omega.{arith}
 use borrow.Author.Needs.{needs}
 use lib.ListN.{length}
-use mathlib.Core.Path.{_≡_, _∙_, sym, ap}
+use mathlib.Core.Path.{_≡_, sym}
 use Rattle.otadata.specs.Words.{checkWord}
 use Rattle.otadata.specs.Records.{recordOf}
 use Rattle.otadata.proofs.Fields.{record-length}
 use Rattle.otadata.proofs.Filled.{Filled, filled-none, filled-more, filled-whole}
 use Rattle.otadata.proofs.records.fields.Statement.{statement}
 use Rattle.otadata.proofs.records.fields.Tie as tie
-use Rattle.otadata.proofs.records.fields.Reads as reads
-use Rattle.otadata.proofs.records.fields.Lts as lts
-use Rattle.otadata.proofs.records.field_byte.Reads as field-byte-reads
-use Rattle.otadata.proofs.words.check_word.Reads as check-word-reads
 
 abbrev Inv-loop : tie.InvT-loop
 Inv-loop sequence label state check rec₀ i₀ rec i = (i ≤ 32) × (check ≡ checkWord (sequence .0)) × Filled (recordOf (sequence .0) label state) i rec

@@ -4,12 +4,6 @@ use Rattle.otadata.proofs.Goodness.{wrong-size, wrong-sequence, wrong-c
 use borrow.Author.Needs.{needs}
 use Rattle.otadata.proofs.records.good.Statement.{statement}
 use Rattle.otadata.proofs.records.good.Tie as tie
-use Rattle.otadata.proofs.records.good.Reads as reads
-use Rattle.otadata.proofs.records.good.Lts as lts
-use Rattle.otadata.proofs.records.is_sequence.Reads as is-sequence-reads
-use Rattle.otadata.proofs.records.is_state.Reads as is-state-reads
-use Rattle.otadata.proofs.words.check_word.Reads as check-word-reads
-use Rattle.otadata.proofs.words.word_at.Reads as word-at-reads
 
 returns : tie.Need-returns
 returns c = search wrong-size

@@ -3,8 +3,6 @@
 use borrow.Author.Tests.{lt-leb, le-leb}
 use Rattle.otadata.proofs.records.is_sequence.Statement.{statement}
 use Rattle.otadata.proofs.records.is_sequence.Tie as tie
-use Rattle.otadata.proofs.records.is_sequence.Reads as reads
-use Rattle.otadata.proofs.records.is_sequence.Lts as lts
 
 returns : tie.Need-returns
 returns c = simp (lt-leb _ _ (c .if1 .taken))

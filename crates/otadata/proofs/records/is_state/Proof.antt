@@ -3,8 +3,6 @@
 use borrow.Author.Tests.{lt-leb, le-leb}
 use Rattle.otadata.proofs.records.is_state.Statement.{statement}
 use Rattle.otadata.proofs.records.is_state.Tie as tie
-use Rattle.otadata.proofs.records.is_state.Reads as reads
-use Rattle.otadata.proofs.records.is_state.Lts as lts
 
 returns : tie.Need-returns
 returns c = simp (le-leb _ _ (c .if1 .taken))

@@ -1,6 +1,6 @@
 -- `otadata::records::label_of` meets its contract: after i turns the first i bytes are the label's.
 -- Assumes nothing.
-use Prim.Native.Nat.{ℕ, _≤_, _<_, _-_}
+use Prim.Native.Nat.{_≤_, _<_, _-_}
 use native.Mathlib.Omega.{arith}
 use borrow.Author.Needs.{needs}
 use mathlib.Core.Path.{sym}
@@ -10,8 +10,6 @@ use Rattle.otadata.proofs.Fields.{label-field-length, label-field-byte}
 use Rattle.otadata.proofs.Filled.{Filled, filled-none, filled-more, filled-whole}
 use Rattle.otadata.proofs.records.label_of.Statement.{statement}
 use Rattle.otadata.proofs.records.label_of.Tie as tie
-use Rattle.otadata.proofs.records.label_of.Reads as reads
-use Rattle.otadata.proofs.records.label_of.Lts as lts
 
 abbrev Inv-loop : tie.InvT-loop
 Inv-loop rec label₀ i₀ label i = (i ≤ 20) × Filled (labelField rec) i label

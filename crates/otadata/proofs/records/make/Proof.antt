@@ -4,10 +4,6 @@ use borrow.Author.Needs.{needs}
 use Rattle.otadata.proofs.Making.{not-made, is-made}
 use Rattle.otadata.proofs.records.make.Statement.{statement}
 use Rattle.otadata.proofs.records.make.Tie as tie
-use Rattle.otadata.proofs.records.make.Reads as reads
-use Rattle.otadata.proofs.records.make.Lts as lts
-use Rattle.otadata.proofs.records.fields.Reads as fields-reads
-use Rattle.otadata.proofs.records.good.Reads as good-reads
 
 fields-requires : tie.Need-fields-requires
 fields-requires c κs = search needs

@@ -4,8 +4,6 @@ use mathlib.Core.Path.{refl}
 use Rattle.otadata.specs.Records.{noReading}
 use Rattle.otadata.proofs.records.no_reading.Statement.{statement}
 use Rattle.otadata.proofs.records.no_reading.Tie as tie
-use Rattle.otadata.proofs.records.no_reading.Reads as reads
-use Rattle.otadata.proofs.records.no_reading.Lts as lts
 
 returns : tie.Need-returns
 unfolding noReading

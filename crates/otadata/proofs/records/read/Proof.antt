@@ -5,13 +5,6 @@ use native.Mathlib.Omega.{arith}
 use Rattle.otadata.proofs.Making.{good-size, nothing-read, record-read}
 use Rattle.otadata.proofs.records.read.Statement.{statement}
 use Rattle.otadata.proofs.records.read.Tie as tie
-use Rattle.otadata.proofs.records.read.Reads as reads
-use Rattle.otadata.proofs.records.read.Lts as lts
-use Rattle.otadata.proofs.records.good.Reads as good-reads
-use Rattle.otadata.proofs.records.label_of.Reads as label-of-reads
-use Rattle.otadata.proofs.records.no_reading.Reads as no-reading-reads
-use Rattle.otadata.proofs.records.state_of.Reads as state-of-reads
-use Rattle.otadata.proofs.words.word_at.Reads as word-at-reads
 
 good-requires : tie.Need-good-requires
 good-requires c κs = search needs

@@ -4,8 +4,6 @@ use borrow.Author.Tests.{ne-eqb}
 use Rattle.otadata.specs.Records.{stateOf}
 use Rattle.otadata.proofs.records.state_of.Statement.{statement}
 use Rattle.otadata.proofs.records.state_of.Tie as tie
-use Rattle.otadata.proofs.records.state_of.Reads as reads
-use Rattle.otadata.proofs.records.state_of.Lts as lts
 
 returns : tie.Need-returns
 unfolding stateOf

@@ -4,10 +4,6 @@ use borrow.Author.Needs.{needs}
 use Rattle.otadata.proofs.Activity.{neither-usable, second-usable, first-usable, second-higher, first-higher}
 use Rattle.otadata.proofs.sectors.active.Statement.{statement}
 use Rattle.otadata.proofs.sectors.active.Tie as tie
-use Rattle.otadata.proofs.sectors.active.Reads as reads
-use Rattle.otadata.proofs.sectors.active.Lts as lts
-use Rattle.otadata.proofs.records.usable.Reads as usable-reads
-use Rattle.otadata.proofs.sectors.sequence_of.Reads as sequence-of-reads
 
 array-copy-out-first : tie.Need-array-copy-out-first
 array-copy-out-first c = search needs

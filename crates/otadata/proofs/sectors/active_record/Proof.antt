@@ -4,11 +4,6 @@ use borrow.Author.Needs.{needs}
 use Rattle.otadata.proofs.Activity.{none-active, first-active, second-active}
 use Rattle.otadata.proofs.sectors.active_record.Statement.{statement}
 use Rattle.otadata.proofs.sectors.active_record.Tie as tie
-use Rattle.otadata.proofs.sectors.active_record.Reads as reads
-use Rattle.otadata.proofs.sectors.active_record.Lts as lts
-use Rattle.otadata.proofs.sectors.active.Reads as active-reads
-use Rattle.otadata.proofs.sectors.readings.Reads as readings-reads
-use Rattle.otadata.proofs.sectors.record_part.Reads as record-part-reads
 
 readings-requires : tie.Need-readings-requires
 readings-requires c κs = search needs

@@ -5,10 +5,6 @@ use mathlib.Core.Path.{_∙_, ap}
 use Rattle.otadata.specs.Records.{reading}
 use Rattle.otadata.proofs.sectors.read_sector.Statement.{statement}
 use Rattle.otadata.proofs.sectors.read_sector.Tie as tie
-use Rattle.otadata.proofs.sectors.read_sector.Reads as reads
-use Rattle.otadata.proofs.sectors.read_sector.Lts as lts
-use Rattle.otadata.proofs.records.read.Reads as read-reads
-use Rattle.otadata.proofs.sectors.record_part.Reads as record-part-reads
 
 record-part-requires : tie.Need-record-part-requires
 record-part-requires c κs = search needs

@@ -9,8 +9,6 @@ use borrow.Author.Tests.{eq-eqb, ne-eqb}
 use Rattle.otadata.specs.Sectors.{recordIn}
 use Rattle.otadata.proofs.sectors.record_part.Statement.{statement}
 use Rattle.otadata.proofs.sectors.record_part.Tie as tie
-use Rattle.otadata.proofs.sectors.record_part.Reads as reads
-use Rattle.otadata.proofs.sectors.record_part.Lts as lts
 
 slice-aggregate-result : tie.Need-slice-aggregate-result
 slice-aggregate-result c = search needs

@@ -10,9 +10,6 @@ use Rattle.otadata.specs.Sectors.{cut}
 use Rattle.otadata.proofs.Stores.{no-sector, no-record, rewrite-of-wrong-size, cut-none, rewrite-turn, rewrite-end}
 use Rattle.otadata.proofs.sectors.rewrite.Statement.{statement}
 use Rattle.otadata.proofs.sectors.rewrite.Tie as tie
-use Rattle.otadata.proofs.sectors.rewrite.Reads as reads
-use Rattle.otadata.proofs.sectors.rewrite.Lts as lts
-use Rattle.otadata.proofs.sectors.store.Reads as store-reads
 
 abbrev Inv-loop : tie.InvT-loop
 Inv-loop sector₀ rec m₀ sector m = (m ≤ 4128) × (length sector ≡ 4096) × (sector ≡ cut rec m sector₀)
@@ -47,7 +44,7 @@ loop-again c =
     let a = sizes .before .before .before .before .args in (
       omega arith,
       omega (arith, call .kept),
-      rewrite-turn (now (a .sector)) (now (a .rec)) (at .sector) (at .m) (at .inv .2) (at .inv .1) (sizes .if2 .left) (turn .loop-test .taken)
+      rewrite-turn (now (a .sector)) (now (a .rec)) (at .sector) (at .m) (at .inv .2) (at .inv .1) (sizes .if2 .left) (omega arith)
           (call .result) (call .last .0) (call .ensures),
     )
 

@@ -4,8 +4,6 @@ use borrow.Author.Needs.{needs}
 use Rattle.otadata.proofs.Stores.{no-sector, no-record, right-sizes, store-of-wrong-size, no-such-store, store-done, erases, programs}
 use Rattle.otadata.proofs.sectors.store.Statement.{statement}
 use Rattle.otadata.proofs.sectors.store.Tie as tie
-use Rattle.otadata.proofs.sectors.store.Reads as reads
-use Rattle.otadata.proofs.sectors.store.Lts as lts
 
 returns : tie.Need-returns
 returns c = search (store-of-wrong-size, no-sector)

@@ -9,9 +9,6 @@ use Rattle.otadata.specs.Words.{feeds, checkWord}
 use Rattle.otadata.proofs.CheckWord.{feeds-turn, feeds-end}
 use Rattle.otadata.proofs.words.check_word.Statement.{statement}
 use Rattle.otadata.proofs.words.check_word.Tie as tie
-use Rattle.otadata.proofs.words.check_word.Reads as reads
-use Rattle.otadata.proofs.words.check_word.Lts as lts
-use Rattle.otadata.proofs.words.shift.Reads as shift-reads
 
 abbrev Inv-loop : tie.InvT-loop
 Inv-loop register₀ rest₀ counter₀ register rest counter = (counter ≤ 32) × (register < 2 ^ 32) × (feeds (32 - counter) register rest ≡ feeds 32 0 rest₀)
