@@ -48,8 +48,11 @@ stateOf w =
 
 -- ---- reading
 
+abbrev pub lastSequence : ℕ
+lastSequence = 4294967294
+
 abbrev pub isSequence : ℕ → Bool
-isSequence q = leb 1 q && leb q 4294967294
+isSequence q = leb 1 q && leb q lastSequence
 
 -- document 01's term *good*: 32 bytes with a sequence from 1 to 4,294,967,294, the right check word, and one of the six states
 unfoldable pub good : List ℕ → Bool

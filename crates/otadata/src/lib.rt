@@ -14,6 +14,25 @@ pub use sectors::rewrite;
 pub use sectors::store;
 pub use words::check_word;
 
+// Sizes in bytes, and the number of stores of a rewrite.
+pub const SECTOR_SIZE: usize = 4096;
+
+pub const RECORD_SIZE: usize = 32;
+
+pub const STORES: usize = 4128;
+
+// The reply numbers of document 01 that this layer gives.
+pub const DONE: u32 = 0;
+
+pub const WRONG_SIZE: u32 = 2;
+
+pub const NO_SUCH_STORE: u32 = 12;
+
+pub const NO_GOOD_RECORD: u32 = 17;
+
+// The highest sequence of a good record.
+pub const LAST_SEQUENCE: u32 = 4_294_967_294;
+
 // The sequence number of a record.
 pub struct Sequence(pub u32);
 

@@ -5,7 +5,11 @@ ghost use lib.ListN.{length, getD};
 ghost use Rattle.otadata.specs.Words.{checkWord};
 ghost use Rattle.otadata.specs.Records.{stateWord, isState, stateOf, isSequence, labelField, noReading, reading, usable as Records·usable, recordOf, made};
 ghost use Rattle.otadata.specs.Records.{good as Records·good, namesSlot};
+use crate::DONE;
+use crate::LAST_SEQUENCE;
 use crate::Made;
+use crate::NO_GOOD_RECORD;
+use crate::RECORD_SIZE;
 use crate::Reading;
 use crate::Sequence;
 use crate::Slot;
@@ -47,11 +51,11 @@ impl Sequence {
     }
 }
 
-// Whether the 32 bytes are a good record. Bytes of another length are none.
+// Whether the bytes are a good record. Bytes of another length than 32 are none.
 fn good(rec: &[u8]) -> bool
     ensures { λ r. ⌜ r ≡ Records·good (now (rec .entry)) ⌝ }
 {
-    if rec.len() != 32 {
+    if rec.len() != RECORD_SIZE {
         return false;
     }
     let sequence = word_at(rec, 0);
@@ -70,7 +74,7 @@ fn is_sequence(word: u32) -> bool
     if word < 1 {
         return false;
     }
-    word <= 4294967294
+    word <= LAST_SEQUENCE
 }
 
 fn is_state(word: u32) -> bool
@@ -156,20 +160,20 @@ pub fn make(sequence: Sequence, label: [u8; 20], state: u32) -> Made
     let rec = fields(sequence, label, state);
     if !good(&rec) {
         return Made {
-            number: 17,
-            rec: [0; 32],
+            number: NO_GOOD_RECORD,
+            rec: [0; RECORD_SIZE],
         };
     }
-    Made { number: 0, rec }
+    Made { number: DONE, rec }
 }
 
 // The 32 bytes of the fields.
-fn fields(sequence: Sequence, label: [u8; 20], state: u32) -> [u8; 32]
+fn fields(sequence: Sequence, label: [u8; 20], state: u32) -> [u8; RECORD_SIZE]
     ensures { λ r. ⌜ r ≡ recordOf (sequence .0) label state ⌝ }
 {
     let check = check_word(sequence);
-    let mut rec = [0u8; 32];
-    for i in 0..32usize {
+    let mut rec = [0u8; RECORD_SIZE];
+    for i in 0..RECORD_SIZE {
         rec[i] = field_byte(sequence, label, state, check, i);
     }
     rec

@@ -2,9 +2,15 @@
 ghost use mathlib.Core.Path.{_≡_};
 ghost use Rattle.otadata.specs.Sectors.{recordIn, sectorReading, readings as Sectors·readings, sequenceIn, active as Sectors·active, activeRecord};
 ghost use Rattle.otadata.specs.Sectors.{reply, singleStore, rewrite as Sectors·rewrite};
+use crate::DONE;
 use crate::Holder;
+use crate::NO_SUCH_STORE;
+use crate::RECORD_SIZE;
 use crate::Reading;
+use crate::SECTOR_SIZE;
+use crate::STORES;
 use crate::Verdict;
+use crate::WRONG_SIZE;
 use crate::records::read;
 use crate::records::usable;
 
@@ -12,10 +18,10 @@ use crate::records::usable;
 fn record_part(sector: &[u8]) -> &[u8]
     ensures { λ r. ⌜ now r ≡ recordIn (now (sector .entry)) ⌝ }
 {
-    if sector.len() != 4096 {
+    if sector.len() != SECTOR_SIZE {
         return &sector[..0];
     }
-    &sector[..32]
+    &sector[..RECORD_SIZE]
 }
 
 // What a sector reads as.
@@ -83,36 +89,36 @@ pub fn active_record<'a>(first: &'a [u8], second: &'a [u8]) -> &'a [u8]
 pub fn store(sector: &mut [u8], rec: &[u8], m: usize) -> u32
     ensures { λ r. ⌜ reply r (now (sector .exit)) ≡ singleStore (now (sector .entry)) (now (rec .entry)) m ⌝ }
 {
-    if sector.len() != 4096 {
-        return 2;
+    if sector.len() != SECTOR_SIZE {
+        return WRONG_SIZE;
     }
-    if rec.len() != 32 {
-        return 2;
+    if rec.len() != RECORD_SIZE {
+        return WRONG_SIZE;
     }
-    if m >= 4128 {
-        return 12;
+    if m >= STORES {
+        return NO_SUCH_STORE;
     }
-    if m < 4096 {
+    if m < SECTOR_SIZE {
         sector[m] = 0xFF;
-        return 0;
+        return DONE;
     }
-    let at = 31 - (m - 4096);
+    let at = 31 - (m - SECTOR_SIZE);
     sector[at] = rec[at];
-    0
+    DONE
 }
 
 // A whole rewrite of the sector with the record: the single store, from 0 to 4,127.
 pub fn rewrite(sector: &mut [u8], rec: &[u8]) -> u32
     ensures { λ r. ⌜ reply r (now (sector .exit)) ≡ Sectors·rewrite (now (sector .entry)) (now (rec .entry)) ⌝ }
 {
-    if sector.len() != 4096 {
-        return 2;
+    if sector.len() != SECTOR_SIZE {
+        return WRONG_SIZE;
     }
-    if rec.len() != 32 {
-        return 2;
+    if rec.len() != RECORD_SIZE {
+        return WRONG_SIZE;
     }
-    for m in 0..4128usize {
+    for m in 0..STORES {
         store(sector, rec, m);
     }
-    0
+    DONE
 }
