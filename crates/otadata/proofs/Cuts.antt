@@ -6,11 +6,11 @@ use mathlib.Core.List.{List}
 use mathlib.Core.Logic.{_⊎_, inl, inr, ⊎-elim}
 use native.Mathlib.Nat.{eq-or-lt-of-le}
 use native.Mathlib.Omega.{arith}
-use lib.ListN.{length, getD, set, length-set}
+use lib.ListN.{length, getD, set}
 use lib.Seq.{getD-set-same, getD-set-other}
-use Rattle.otadata.specs.Sectors.{stored, cut}
+use Rattle.otadata.specs.Sectors.{cut}
 use Rattle.otadata.proofs.Numbers.{le-or-lt}
-use Rattle.otadata.proofs.Stores.{erases, programs, cut-none, cut-suc}
+use Rattle.otadata.proofs.Stores.{erases, programs, cut-none, cut-suc, cut-length}
 
 -- an element of a list after a store at i, at i and elsewhere
 set-here : (l : List ℕ) (i v j : ℕ) → i < length l → j ≡ i → getD (set l i v) j 0 ≡ v
@@ -18,17 +18,6 @@ set-here l i v j h e = subst (λ (k : ℕ). getD (set l i v) k 0 ≡ v) (sym e) 
 
 set-elsewhere : (l : List ℕ) (i v j : ℕ) → (j ≡ i → ⊥) → getD (set l i v) j 0 ≡ getD l j 0
 set-elsewhere l i v j n = getD-set-other l i j v 0 n
-
-stored-length : (rec s : List ℕ) (m : ℕ) → length (stored rec m s) ≡ length s
-stored-length rec s m =
-    ⊎-elim
-    (λ (l : 4096 ≤ m). ap length (sym (programs s rec m l)) ∙ simp length-set)
-    (λ (l : m < 4096). ap length (sym (erases s rec m l)) ∙ simp length-set)
-    (le-or-lt 4096 m)
-
-pub cut-length : (rec s : List ℕ) (k : ℕ) → length (cut rec k s) ≡ length s
-cut-length rec s zero = ap length (cut-none s rec)
-cut-length rec s (suc k) = ap length (cut-suc s rec k) ∙ stored-length rec (cut rec k s) k ∙ cut-length rec s k
 
 module _ (rec s : List ℕ) (size : length s ≡ 4096) where
   -- a store of the erasing half, and one of the programming half
@@ -46,7 +35,7 @@ module _ (rec s : List ℕ) (size : length s ≡ 4096) where
       ∙ ap (λ (p : ℕ). set (cut rec (4096 + i) s) p (getD rec p 0)) at)
 
   within : (k p : ℕ) → p < 4096 → p < length (cut rec k s)
-  within k p l = omega (arith, cut-length rec s k)
+  within k p l = omega (arith, cut-length s rec k)
 
   -- cut in the erasing half: the bytes below k are erased, the others are kept
   pub erased : (k j : ℕ) → k ≤ 4096 → j < k → getD (cut rec k s) j 0 ≡ 255

@@ -1,22 +1,15 @@
 -- When a record is good, as its reader's tests decide it, and what a good record's fields are.
 -- Assumes nothing.
 use Prim.Native.Nat.{ℕ, _≤_}
-use mathlib.Core.Path.{_≡_, refl}
+use mathlib.Core.Path.{_≡_}
 use mathlib.Core.Bool.{Bool, true, false, not, _&&_}
 use mathlib.Core.List.{List}
-use native.Mathlib.Omega.{arith}
 use lib.Dec.{eqb, leb}
 use lib.ListN.{length}
 use borrow.Author.Tests.{eq-eqb, ne-eqb, not-true, not-false, eqb-true, leb-true, le-leb}
 use Rattle.otadata.specs.Words.{checkWord}
 use Rattle.otadata.specs.Records.{sequenceField, stateField, checkField, isSequence, isState, good}
-
-false-is-not-true : false ≡ true → ⊥
-false-is-not-true e = let z : _≡_ {A = ℕ} 0 1 = cc in omega arith
-
-both : (a b : Bool) → (a && b) ≡ true → (a ≡ true) × (b ≡ true)
-both true b e = (refl, e)
-both false b e = absurd (false-is-not-true e)
+use Rattle.otadata.proofs.Booleans.{both}
 
 -- ---- what a good record is
 

@@ -9,57 +9,17 @@ use mathlib.Core.List.{List, [], _∷_}
 use mathlib.Core.Logic.{_⊎_, inl, inr, ⊎-elim}
 use native.Mathlib.Omega.{arith}
 use lib.Dec.{ltb}
-use lib.ListN.{length, getD, take, replicate, getD-replicate, List·getD-eq-default}
-use lib.Seq.{getD-take, length-take-le, ext-getD}
-use borrow.Author.Tests.{eq-eqb}
-use Rattle.otadata.specs.Words.{word}
+use lib.ListN.{length, getD, replicate, getD-replicate, List·getD-eq-default}
+use Rattle.otadata.specs.Words.{bytes}
 use Rattle.otadata.specs.Records.{sequenceField, checkField, good}
 use Rattle.otadata.specs.Sectors.{recordIn, blank, readsAs, cut, reply, sized, singleStore, rewrite}
-use Rattle.otadata.specs.PowerCut.{bytes, Call, rewriteCut, storeRefused, rewriteRefused, refused, allowed, leaves, after, allAllowed, Last, none, last, noted, lastOf, History, Reads, ReadingLaw}
+use Rattle.otadata.specs.PowerCut.{Call, rewriteCut, storeRefused, rewriteRefused, refused, allowed, leaves, after, allAllowed, Last, none, last, noted, lastOf, History, Reads, ReadingLaw}
 use Rattle.otadata.proofs.CheckWord.{check-word-one-to-one}
 use Rattle.otadata.proofs.Goodness.{is-good}
+use Rattle.otadata.proofs.SectorReads.{reads-record, reads-none, reads-alike, good-or-not, record-in-length, record-in-byte, record-is}
 use Rattle.otadata.proofs.Numbers.{le-or-lt, below-four}
-use Rattle.otadata.proofs.Cuts.{cut-length, erased, kept, programmed, unprogrammed}
-
--- ---- what a sector reads as
-
-pub reads-record : (s : List ℕ) → good (recordIn s) ≡ true → readsAs s ≡ recordIn s
-unfolding readsAs
-reads-record s g = simp g
-
-pub reads-none : (s : List ℕ) → good (recordIn s) ≡ false → readsAs s ≡ []
-unfolding readsAs
-reads-none s g = simp g
-
-pub reads-alike : (s t : List ℕ) → recordIn s ≡ recordIn t → readsAs s ≡ readsAs t
-unfolding readsAs
-reads-alike s t e = simp e
-
-good-or-not : (s : List ℕ) → (good (recordIn s) ≡ true) ⊎ (good (recordIn s) ≡ false)
-good-or-not s = decide (good (recordIn s))
-  where
-    decide : (b : Bool) → (b ≡ true) ⊎ (b ≡ false)
-    decide true = inl refl
-    decide false = inr refl
-
-module _ (s : List ℕ) (size : length s ≡ 4096) where
-  pub record-in : recordIn s ≡ take 32 s
-  unfolding recordIn
-  record-in = simp (eq-eqb _ _ size)
-
-  pub record-in-length : length (recordIn s) ≡ 32
-  record-in-length = ap length record-in ∙ length-take-le 32 s (omega arith)
-
-  pub record-in-byte : (j : ℕ) → j < 32 → getD (recordIn s) j 0 ≡ getD s j 0
-  record-in-byte j l = ap (λ (r : List ℕ). getD r j 0) record-in ∙ getD-take 32 s j 0 l
-
-  -- a record is known by its 32 bytes
-  pub record-is : (g : List ℕ) → length g ≡ 32 → ((j : ℕ) → j < 32 → getD s j 0 ≡ getD g j 0) → recordIn s ≡ g
-  record-is g e same =
-      ext-getD 0 (recordIn s) g (record-in-length ∙ sym e)
-      (λ (j : ℕ) (l : j < length (recordIn s)).
-      let h : j < 32 = omega (arith, record-in-length) in
-      record-in-byte j h ∙ same j h)
+use Rattle.otadata.proofs.Stores.{cut-length}
+use Rattle.otadata.proofs.Cuts.{erased, kept, programmed, unprogrammed}
 
 -- ---- the two shapes
 
@@ -167,7 +127,7 @@ record Step (s rec : List ℕ) (k : ℕ) : Type 0 where
 
 module _ (s rec : List ℕ) (k : ℕ) (size : length s ≡ 4096) (of-bytes : bytes rec) (g : good rec ≡ true) where
   new-size : length (cut rec k s) ≡ 4096
-  new-size = cut-length rec s k ∙ size
+  new-size = cut-length s rec k ∙ size
 
   -- the sequence is erased: none is read
   step-erased : k < 4128 → Erased (cut rec k s) → Step s rec k
@@ -323,7 +283,7 @@ keeps : (c : Call) (s : List ℕ) (l : Last) → allowed c s → Known l s → K
 keeps (rewriteCut rec k) s l (of-bytes, g, upto) now =
     let done = step s rec k (now .sound .size) of-bytes g upto (now .sound .shape) in
     record {
-      sound = record { size = cut-length rec s k ∙ now .sound .size; shape = done .shape };
+      sound = record { size = cut-length s rec k ∙ now .sound .size; shape = done .shape };
       told = done .reads;
     }
 keeps (storeRefused rec m) s l r now = subst (Known l) (sym (store-refused s rec m r)) now
@@ -372,3 +332,14 @@ reading-law start calls before rec k h = known-after start calls before rec k h 
 -- the sector keeps its size
 pub after-size : (start : List ℕ) (calls : List Call) (before rec : List ℕ) (k : ℕ) → History start calls before rec k → length (after calls start) ≡ 4096
 after-size start calls before rec k h = known-after start calls before rec k h .sound .size
+
+-- a single cut rewrite is such a history
+pub one-rewrite : (start rec : List ℕ) (k : ℕ)
+    → length start ≡ 4096 → bytes start → blank start ⊎ (good (recordIn start) ≡ true)
+    → bytes rec → good rec ≡ true → k ≤ 4128 → History start (rewriteCut rec k ∷ []) start rec k
+one-rewrite start rec k size of-bytes begins bytes-rec g l =
+    record { size = size; of-bytes = of-bytes; begins = begins; each = ((bytes-rec, g, l), tt); ends = refl }
+
+-- a finished rewrite is read as its record, whatever the sector held
+pub finished-reads : (s rec : List ℕ) → length s ≡ 4096 → bytes rec → good rec ≡ true → readsAs (cut rec 4128 s) ≡ rec
+finished-reads s rec size of-bytes g = step-new s rec 4128 size of-bytes g (omega arith) (omega arith) .reads .finished refl

@@ -2,9 +2,9 @@
 -- Assumes nothing.
 use Prim.Native.Nat.{ℕ, zero, suc, _+_, _-_, _*_, _/_, _^_, _<_, _≤_}
 use mathlib.Core.Path.{_≡_, _∙_, refl, sym, ap, ap₂, subst}
-use mathlib.Core.Bool.{Bool, true, false, cond, _||_}
+use mathlib.Core.Bool.{Bool, true, false, cond}
 use mathlib.Core.List.{List}
-use mathlib.Core.Logic.{_⊎_, inl, inr, ⊎-elim}
+use mathlib.Core.Logic.{_⊎_, ⊎-elim}
 use native.Mathlib.Nat.{add-zero, zero-add}
 use native.Mathlib.Omega.{arith}
 use lib.Dec.{eqb, leb}
@@ -16,10 +16,10 @@ use Rattle.otadata.specs.declared.State.{State}
 use Rattle.otadata.specs.declared.Verdict.the-variants.{Good}
 use Rattle.otadata.specs.declared.Reading.{Reading}
 use Rattle.otadata.specs.declared.Made.{Made}
-use Rattle.otadata.specs.Words.{word, byteOf}
+use Rattle.otadata.specs.Words.{bytes, word, byteOf}
 use Rattle.otadata.specs.Records.{sequenceField, labelField, stateField, stateWord, isState, stateOf, good, noReading, reading, recordOf, made}
-use Rattle.otadata.specs.PowerCut.{bytes}
 use Rattle.otadata.specs.RoundTrip.{MadeThenRead, ReadThenMade}
+use Rattle.otadata.proofs.Booleans.{either}
 use Rattle.otadata.proofs.Numbers.{le-or-lt, below-four}
 use Rattle.otadata.proofs.Fields.{record-length, sequence-byte, label-byte, state-byte, check-byte, label-field-length, label-field-byte}
 use Rattle.otadata.proofs.Goodness.{IsGood, is-good}
@@ -52,10 +52,6 @@ byte-of-word s at b =
     below-four (λ (i : ℕ). byteOf (word s at) i ≡ getD s (at + i) 0) (rw add-zero (omega arith)) (omega arith) (omega arith) (omega arith)
 
 -- ---- the state of a word
-
-either : (a b : Bool) → (a || b) ≡ true → (a ≡ true) ⊎ (b ≡ true)
-either true b e = inl refl
-either false b e = inr e
 
 word-of-low : (w : ℕ) → w ≤ 4 → stateWord (stateOf w) ≡ w
 unfolding stateOf

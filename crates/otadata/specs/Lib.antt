@@ -1,5 +1,5 @@
 pub mod Words
 pub mod Records
+pub mod RoundTrip
 pub mod Sectors
 pub mod PowerCut
-pub mod RoundTrip

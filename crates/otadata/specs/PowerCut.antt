@@ -1,16 +1,13 @@
 -- What a power cut can leave of a sector, and the law of its reading: the half of demand 3 that speaks of one sector alone.
-use Prim.Native.Nat.{ℕ, _<_, _≤_}
+use Prim.Native.Nat.{ℕ, _≤_}
 use mathlib.Core.Path.{_≡_}
 use mathlib.Core.Bool.{true}
 use mathlib.Core.List.{List, [], _∷_}
 use mathlib.Core.Logic.{_⊎_}
-use lib.ListN.{length, getD}
+use lib.ListN.{length}
+use Rattle.otadata.specs.Words.{bytes}
 use Rattle.otadata.specs.Records.{good}
 use Rattle.otadata.specs.Sectors.{recordIn, blank, readsAs, cut, Reply, singleStore, rewrite}
-
--- each element is a byte
-abbrev pub bytes : List ℕ → Type 0
-bytes s = (i : ℕ) → getD s i 0 < 256
 
 -- ---- the calls on one sector
 
@@ -72,11 +69,12 @@ pub record History (start : List ℕ) (calls : List Call) (before rec : List ℕ
   pub each : allAllowed calls start
   pub ends : lastOf calls start none ≡ last before rec k
 
--- the sector now reads exactly as it did before the last rewrite, exactly as that rewrite's record, or as none;
+-- what is left reads exactly as it did before the last rewrite, exactly as that rewrite's record, or as none;
 -- where that rewrite is finished, as its record
-pub record Reads (before rec : List ℕ) (k : ℕ) (now : List ℕ) : Type 0 where
-  pub one-of : (readsAs now ≡ readsAs before) ⊎ ((readsAs now ≡ rec) ⊎ (readsAs now ≡ []))
-  pub finished : k ≡ 4128 → readsAs now ≡ rec
+pub record Reads (before rec : List ℕ) (k : ℕ) (left : List ℕ) : Type 0 where
+  pub one-of : (readsAs left ≡ readsAs before) ⊎ ((readsAs left ≡ rec) ⊎ (readsAs left ≡ []))
+  pub finished : k ≡ 4128 → readsAs left ≡ rec
 
+-- for every such history
 unfoldable pub ReadingLaw : Type 0
 ReadingLaw = (start : List ℕ) (calls : List Call) (before rec : List ℕ) (k : ℕ) → History start calls before rec k → Reads before rec k (after calls start)

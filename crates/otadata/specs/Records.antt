@@ -48,13 +48,14 @@ stateOf w =
 
 -- ---- reading
 
+-- a good record's sequence is from 1 to 4,294,967,294
 abbrev pub lastSequence : ℕ
 lastSequence = 4294967294
 
 abbrev pub isSequence : ℕ → Bool
 isSequence q = leb 1 q && leb q lastSequence
 
--- document 01's term *good*: 32 bytes with a sequence from 1 to 4,294,967,294, the right check word, and one of the six states
+-- document 01's term *good*: 32 bytes with such a sequence, the right check word, and one of the six states
 unfoldable pub good : List ℕ → Bool
 good rec =
     eqb (length rec) 32
@@ -66,14 +67,13 @@ good rec =
 unfoldable pub noReading : Reading
 noReading = record { verdict = None; label = replicate 20 0 }
 
--- what the bytes of a record read as
+-- the fields of a good record, or none
 unfoldable pub reading : List ℕ → Reading
 reading rec =
     cond (good rec)
     (record { verdict = Good (record { 0 = sequenceField rec }) (stateOf (stateField rec)); label = labelField rec })
     noReading
 
--- document 01's term *usable*: good, and neither invalid nor aborted
 abbrev pub usableState : State → Bool
 usableState New = true
 usableState Pending = true
@@ -86,6 +86,7 @@ abbrev pub usableVerdict : Verdict → Bool
 usableVerdict None = false
 usableVerdict (Good q s) = usableState s
 
+-- document 01's term *usable*: good, and neither invalid nor aborted
 abbrev pub usable : Reading → Bool
 usable r = usableVerdict (r .verdict)
 

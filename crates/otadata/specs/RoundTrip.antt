@@ -7,8 +7,8 @@ use Rattle.otadata.specs.declared.Sequence.{Sequence}
 use Rattle.otadata.specs.declared.State.{State}
 use Rattle.otadata.specs.declared.Verdict.the-variants.{Good}
 use Rattle.otadata.specs.declared.Reading.{Reading}
+use Rattle.otadata.specs.Words.{bytes}
 use Rattle.otadata.specs.Records.{stateWord, reading, made}
-use Rattle.otadata.specs.PowerCut.{bytes}
 
 -- the fields that were made are read: the sequence, the label, and the state whose word was given
 pub record SameFields (q : ℕ) (label : List ℕ) (w : ℕ) (r : Reading) : Type 0 where

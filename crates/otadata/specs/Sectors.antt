@@ -83,6 +83,7 @@ pub record Reply : Type 0 where
 abbrev pub reply : ℕ → List ℕ → Reply
 reply n s = record { number = n; sector = s }
 
+-- the sector has 4,096 bytes, and the record 32
 abbrev pub sized : List ℕ → List ℕ → Bool
 sized s rec = eqb (length s) 4096 && eqb (length rec) 32
 

@@ -1,10 +1,14 @@
 -- Little-endian words, and the check word of a sequence.
-use Prim.Native.Nat.{ℕ, zero, suc, _+_, _-_, _*_, _/_, _%_, _^_}
+use Prim.Native.Nat.{ℕ, zero, suc, _+_, _-_, _*_, _/_, _%_, _^_, _<_}
 use mathlib.Core.Bool.{cond}
 use mathlib.Core.List.{List, [], _∷_}
 use lib.Bits.{bitXor}
 use lib.Dec.{eqb}
 use lib.ListN.{getD}
+
+-- each element is a byte
+abbrev pub bytes : List ℕ → Type 0
+bytes s = (i : ℕ) → getD s i 0 < 256
 
 -- the number in the four bytes from `at`; a byte past the end counts as 0
 abbrev pub word : List ℕ → ℕ → ℕ

@@ -1,7 +1,7 @@
 // The two otadata sectors: reading them, the active record, and rewriting one.
 ghost use mathlib.Core.Path.{_≡_};
 ghost use Rattle.otadata.specs.Sectors.{recordIn, sectorReading, readings as Sectors·readings, sequenceIn, active as Sectors·active, activeRecord};
-ghost use Rattle.otadata.specs.Sectors.{reply, singleStore, rewrite as Sectors·rewrite};
+ghost use Rattle.otadata.specs.Sectors.{sized as Sectors·sized, reply, singleStore, rewrite as Sectors·rewrite};
 use crate::DONE;
 use crate::Holder;
 use crate::NO_SUCH_STORE;
@@ -18,10 +18,10 @@ use crate::records::usable;
 fn record_part(sector: &[u8]) -> &[u8]
     ensures { λ r. ⌜ now r ≡ recordIn (now (sector .entry)) ⌝ }
 {
-    if sector.len() != SECTOR_SIZE {
-        return &sector[..0];
+    if sector.len() == SECTOR_SIZE {
+        return &sector[..RECORD_SIZE];
     }
-    &sector[..RECORD_SIZE]
+    &sector[..0]
 }
 
 // What a sector reads as.
@@ -85,14 +85,22 @@ pub fn active_record<'a>(first: &'a [u8], second: &'a [u8]) -> &'a [u8]
     }
 }
 
-// Store m of a rewrite of the sector with the record.
+// Whether a sector and a record of a rewrite have their sizes.
+fn sized(sector: &[u8], rec: &[u8]) -> bool
+    ensures { λ r. ⌜ r ≡ Sectors·sized (now (sector .entry)) (now (rec .entry)) ⌝ }
+{
+    if sector.len() != SECTOR_SIZE {
+        return false;
+    }
+    rec.len() == RECORD_SIZE
+}
+
+// Store m of a rewrite of the sector with the record: erasing goes up from the first byte, programming down from the record's
+// last, so that the sequence comes last.
 pub fn store(sector: &mut [u8], rec: &[u8], m: usize) -> u32
     ensures { λ r. ⌜ reply r (now (sector .exit)) ≡ singleStore (now (sector .entry)) (now (rec .entry)) m ⌝ }
 {
-    if sector.len() != SECTOR_SIZE {
-        return WRONG_SIZE;
-    }
-    if rec.len() != RECORD_SIZE {
+    if !sized(sector, rec) {
         return WRONG_SIZE;
     }
     if m >= STORES {
@@ -111,10 +119,7 @@ pub fn store(sector: &mut [u8], rec: &[u8], m: usize) -> u32
 pub fn rewrite(sector: &mut [u8], rec: &[u8]) -> u32
     ensures { λ r. ⌜ reply r (now (sector .exit)) ≡ Sectors·rewrite (now (sector .entry)) (now (rec .entry)) ⌝ }
 {
-    if sector.len() != SECTOR_SIZE {
-        return WRONG_SIZE;
-    }
-    if rec.len() != RECORD_SIZE {
+    if !sized(sector, rec) {
         return WRONG_SIZE;
     }
     for m in 0..STORES {

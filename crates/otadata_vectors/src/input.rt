@@ -46,3 +46,10 @@ pub(crate) fn lay(bytes: &mut [u8], fill: u8, rec: &[u8]) {
         bytes[i] = byte_or(rec, i, fill);
     }
 }
+
+// A record with `fill` after it, in a buffer of which any sector of a case is a part.
+pub(crate) fn laid(fill: u8, rec: &[u8]) -> [u8; 5000] {
+    let mut bytes = [0u8; 5000];
+    lay(&mut bytes, fill, rec);
+    bytes
+}

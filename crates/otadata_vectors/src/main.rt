@@ -3,7 +3,9 @@ mod input;
 mod output;
 
 use input::byte;
+use input::laid;
 use input::lay;
+use input::least;
 use input::part;
 use input::word;
 use libc::STDIN_FILENO;
@@ -13,6 +15,8 @@ use otadata::Sequence;
 use output::end_line;
 use output::print;
 use output::print_bytes;
+use output::print_changes;
+use output::print_erased;
 use output::print_number;
 use output::print_reading;
 
@@ -77,10 +81,8 @@ fn slot(case: &[u8]) {
 
 // Both readings, the number of the active sector, and the active record's bytes.
 fn active(case: &[u8]) {
-    let mut first = [0u8; 5000];
-    let mut second = [0u8; 5000];
-    lay(&mut first, byte(case, 20), part(case, 24, 32));
-    lay(&mut second, byte(case, 21), part(case, 56, 32));
+    let first = laid(byte(case, 20), part(case, 24, 32));
+    let second = laid(byte(case, 21), part(case, 56, 32));
     let one = part(&first, 0, word(case, 4) as usize);
     let two = part(&second, 0, word(case, 8) as usize);
     let readings = otadata::readings(one, two);
@@ -104,35 +106,32 @@ fn print_both(readings: [Reading; 2]) {
 
 // A single store, and every byte of the sector that it changed.
 fn store(case: &[u8]) {
-    let mut sector = [0u8; 5000];
-    let mut before = [0u8; 5000];
-    lay(&mut sector, byte(case, 20), part(case, 24, 32));
-    lay(&mut before, byte(case, 20), part(case, 24, 32));
-    let n = input::least(word(case, 4) as usize, 5000);
+    let before = laid(byte(case, 20), part(case, 24, 32));
+    let mut sector = before;
+    let n = least(word(case, 4) as usize, 5000);
     let rec = part(case, 56, word(case, 8) as usize);
     let number = otadata::store(&mut sector[..n], rec, word(case, 12) as usize);
     print(b"store ");
     print_number(number as u64);
-    output::print_changes(&before, &sector);
+    print_changes(&before, &sector);
 }
 
 // A whole rewrite: the record, and how many of the bytes after it are 0xFF.
 fn rewrite(case: &[u8]) {
-    let mut sector = [0u8; 5000];
-    lay(&mut sector, byte(case, 20), part(case, 24, 32));
-    let n = input::least(word(case, 4) as usize, 5000);
+    let mut sector = laid(byte(case, 20), part(case, 24, 32));
+    let n = least(word(case, 4) as usize, 5000);
     let rec = part(case, 56, word(case, 8) as usize);
     let number = otadata::rewrite(&mut sector[..n], rec);
     print(b"rewrite ");
     print_number(number as u64);
-    output::print_erased(&sector);
+    print_erased(&sector);
 }
 
 // A rewrite cut at k, store by store, and what the sector then reads as.
 fn cut(case: &[u8]) {
     let mut sector = [0u8; 4096];
     lay(&mut sector, byte(case, 20), part(case, 24, 32));
-    let k = input::least(word(case, 12) as usize, 4128);
+    let k = least(word(case, 12) as usize, 4128);
     stores(&mut sector, part(case, 56, 32), k);
     print(b"cut ");
     print_number(k as u64);

@@ -32,6 +32,8 @@ pub fn report(readings: [Reading; 2]) -> Text
     active_line(two, holder)
 }
 
+// The functions below put one part of the report at the end of a text that has room for the longest that it can be.
+
 fn sector_line(text: Text, k: u64, reading: Reading) -> Text
     requires { ⌜ Room text 69 ⌝ }
     ensures { λ r. ⌜ r ≡ textOf (content text ++ sectorLine k reading) ⌝ }

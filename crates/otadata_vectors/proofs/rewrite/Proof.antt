@@ -6,17 +6,14 @@ use borrow.Author.Needs.{needs}
 use Rattle.otadata_vectors.proofs.rewrite.Statement.{statement}
 use Rattle.otadata_vectors.proofs.rewrite.Tie as tie
 
-slice-aggregate-lay : tie.Need-slice-aggregate-lay
-slice-aggregate-lay c = search needs
-
 byte-requires : tie.Need-byte-requires
 byte-requires c κs = search needs
 
 part-requires : tie.Need-part-requires
 part-requires c κs = search needs
 
-lay-requires : tie.Need-lay-requires
-lay-requires c κs = search needs
+laid-requires : tie.Need-laid-requires
+laid-requires c κs = search needs
 
 word-requires : tie.Need-word-requires
 word-requires c κs = search needs
@@ -40,7 +37,7 @@ array-borrow-prefix-sector : tie.Need-array-borrow-prefix-sector
 array-borrow-prefix-sector c = search needs
 
 slice-aggregate-rewrite : tie.Need-slice-aggregate-rewrite
-slice-aggregate-rewrite c = lent (c .before .before .before .before .before .before .lay .last .0) (c .before .before .before .least .result) (omega arith)
+slice-aggregate-rewrite c = lent (c .before .before .before .before .before .laid .result) (c .before .before .before .least .result) (omega arith)
 
 rewrite-requires : tie.Need-rewrite-requires
 rewrite-requires c κs = search needs
@@ -59,9 +56,8 @@ print-number-requires c κs = search needs
 
 slice-aggregate-print-erased : tie.Need-slice-aggregate-print-erased
 slice-aggregate-print-erased c =
-    let laid = c .before .before .before .before .before .before .before .before .before .before .before .before .lay in
     let done = c .before .before .before .before .before .rewrite in
-    back (laid .last .0) (done .last .0) (c .before .before .before .before .before .before .before .before .before .least .result) 5000 (laid .kept .0) (done .kept .0)
+    back (c .before .before .before .before .before .before .before .before .before .before .before .laid .result) (done .last .0) (c .before .before .before .before .before .before .before .before .before .least .result) 5000 (search needs) (done .kept .0)
 
 print-erased-requires : tie.Need-print-erased-requires
 print-erased-requires c κs = search needs
@@ -73,10 +69,9 @@ pub rewrite-spec : {M : Type 1} → statement M
 rewrite-spec =
     tie.close
     (tie.spec
-    slice-aggregate-lay
     byte-requires
     part-requires
-    lay-requires
+    laid-requires
     word-requires
     cast-least
     least-requires

@@ -6,29 +6,14 @@ use borrow.Author.Needs.{needs}
 use Rattle.otadata_vectors.proofs.store.Statement.{statement}
 use Rattle.otadata_vectors.proofs.store.Tie as tie
 
-slice-aggregate-lay : tie.Need-slice-aggregate-lay
-slice-aggregate-lay c = search needs
-
 byte-requires : tie.Need-byte-requires
 byte-requires c κs = search needs
 
 part-requires : tie.Need-part-requires
 part-requires c κs = search needs
 
-lay-requires : tie.Need-lay-requires
-lay-requires c κs = search needs
-
-slice-aggregate-lay-2 : tie.Need-slice-aggregate-lay-2
-slice-aggregate-lay-2 c = search needs
-
-byte-requires-2 : tie.Need-byte-requires-2
-byte-requires-2 c κs = search needs
-
-part-requires-2 : tie.Need-part-requires-2
-part-requires-2 c κs = search needs
-
-lay-requires-2 : tie.Need-lay-requires-2
-lay-requires-2 c κs = search needs
+laid-requires : tie.Need-laid-requires
+laid-requires c κs = search needs
 
 word-requires : tie.Need-word-requires
 word-requires c κs = search needs
@@ -45,14 +30,14 @@ word-requires-2 c κs = search needs
 cast-part : tie.Need-cast-part
 cast-part c = search needs
 
-part-requires-3 : tie.Need-part-requires-3
-part-requires-3 c κs = search needs
+part-requires-2 : tie.Need-part-requires-2
+part-requires-2 c κs = search needs
 
 array-borrow-prefix-sector : tie.Need-array-borrow-prefix-sector
 array-borrow-prefix-sector c = search needs
 
 slice-aggregate-store : tie.Need-slice-aggregate-store
-slice-aggregate-store c = lent (c .before .before .before .before .before .before .before .before .before .before .before .lay .last .0) (c .before .before .before .least .result) (omega arith)
+slice-aggregate-store c = lent (c .before .before .before .before .before .laid .result) (c .before .before .before .least .result) (omega arith)
 
 word-requires-3 : tie.Need-word-requires-3
 word-requires-3 c κs = search needs
@@ -80,9 +65,8 @@ slice-aggregate-print-changes c = search needs
 
 slice-aggregate-print-changes-2 : tie.Need-slice-aggregate-print-changes-2
 slice-aggregate-print-changes-2 c =
-    let laid = c .before .before .before .before .before .before .before .before .before .before .before .before .before .before .before .before .before .before .before .lay in
     let done = c .before .before .before .before .before .before .store in
-    back (laid .last .0) (done .last .0) (c .before .before .before .before .before .before .before .before .before .before .before .least .result) 5000 (laid .kept .0) (done .kept .0)
+    back (c .before .before .before .before .before .before .before .before .before .before .before .before .before .laid .result) (done .last .0) (c .before .before .before .before .before .before .before .before .before .before .before .least .result) 5000 (search needs) (done .kept .0)
 
 print-changes-requires : tie.Need-print-changes-requires
 print-changes-requires c κs = search needs
@@ -94,20 +78,15 @@ pub store-spec : {M : Type 1} → statement M
 store-spec =
     tie.close
     (tie.spec
-    slice-aggregate-lay
     byte-requires
     part-requires
-    lay-requires
-    slice-aggregate-lay-2
-    byte-requires-2
-    part-requires-2
-    lay-requires-2
+    laid-requires
     word-requires
     cast-least
     least-requires
     word-requires-2
     cast-part
-    part-requires-3
+    part-requires-2
     array-borrow-prefix-sector
     slice-aggregate-store
     word-requires-3
