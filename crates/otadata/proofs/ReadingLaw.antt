@@ -13,13 +13,18 @@ use lib.ListN.{length, getD, replicate, getD-replicate, List·getD-eq-default}
 use Rattle.otadata.specs.Words.{bytes}
 use Rattle.otadata.specs.Records.{sequenceField, checkField, good}
 use Rattle.otadata.specs.Sectors.{recordIn, blank, readsAs, cut, reply, sized, singleStore, rewrite}
-use Rattle.otadata.specs.PowerCut.{Call, rewriteCut, storeRefused, rewriteRefused, refused, allowed, leaves, after, allAllowed, Last, none, last, noted, lastOf, History, Reads, ReadingLaw}
+use Rattle.otadata.specs.PowerCut.{Call, rewriteCut, storeRefused, rewriteRefused, refused, allowed, leaves, after, allAllowed, Last, none, last, noted, lastOf, History, Reads, ReadingLaw, StoreByStore}
 use Rattle.otadata.proofs.CheckWord.{check-word-one-to-one}
 use Rattle.otadata.proofs.Goodness.{is-good}
 use Rattle.otadata.proofs.SectorReads.{reads-record, reads-none, reads-alike, good-or-not, record-in-length, record-in-byte, record-is}
 use Rattle.otadata.proofs.Numbers.{le-or-lt, below-four}
-use Rattle.otadata.proofs.Stores.{cut-length}
+use Rattle.otadata.proofs.Stores.{right-sizes, store-done, cut-more, cut-length}
 use Rattle.otadata.proofs.Cuts.{erased, kept, programmed, unprogrammed}
+
+pub store-by-store : StoreByStore
+unfolding StoreByStore
+store-by-store s rec k size rec-size l =
+    sym (store-done (cut rec k s) rec k (right-sizes (cut rec k s) rec (cut-length s rec k ∙ size) rec-size) l) ∙ ap (reply 0) (sym (cut-more s rec k))
 
 -- ---- the two shapes
 

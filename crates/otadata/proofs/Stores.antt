@@ -23,6 +23,9 @@ module _ (s rec : List ℕ) where
   pub record-decides : length s ≡ 4096 → eqb (length rec) 32 ≡ sized s rec
   record-decides e = simp (eq-eqb _ _ e)
 
+  pub right-sizes : length s ≡ 4096 → length rec ≡ 32 → sized s rec ≡ true
+  right-sizes e f = simp (eq-eqb _ _ e, eq-eqb _ _ f)
+
   module _ (t : Bool) (tested : t ≡ sized s rec) (y : not t ≡ false) where
     pub right : sized s rec ≡ true
     right = sym tested ∙ not-false t y
@@ -51,7 +54,7 @@ module _ (s rec : List ℕ) (m : ℕ) where
       (λ (l : m < 4096). ap length (sym (erases l)) ∙ simp length-set)
       (le-or-lt 4096 m)
 
-  store-done : sized s rec ≡ true → m < 4128 → reply 0 (stored rec m s) ≡ singleStore s rec m
+  pub store-done : sized s rec ≡ true → m < 4128 → reply 0 (stored rec m s) ≡ singleStore s rec m
   unfolding singleStore
   store-done r l = simp (r, lt-ltb _ _ l)
 
@@ -86,7 +89,7 @@ module _ (s rec : List ℕ) where
   unfolding cut
   cut-suc k = refl
 
-  cut-more : (k : ℕ) → cut rec (k + 1) s ≡ stored rec k (cut rec k s)
+  pub cut-more : (k : ℕ) → cut rec (k + 1) s ≡ stored rec k (cut rec k s)
   cut-more k = ap (λ (j : ℕ). cut rec j s) (add-one k) ∙ cut-suc k
 
   pub cut-length : (k : ℕ) → length (cut rec k s) ≡ length s

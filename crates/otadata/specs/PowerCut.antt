@@ -1,5 +1,5 @@
 -- What a power cut can leave of a sector, and the law of its reading: the half of demand 3 that speaks of one sector alone.
-use Prim.Native.Nat.{ℕ, _≤_}
+use Prim.Native.Nat.{ℕ, _+_, _<_, _≤_}
 use mathlib.Core.Path.{_≡_}
 use mathlib.Core.Bool.{true}
 use mathlib.Core.List.{List, [], _∷_}
@@ -7,7 +7,13 @@ use mathlib.Core.Logic.{_⊎_}
 use lib.ListN.{length}
 use Rattle.otadata.specs.Words.{bytes}
 use Rattle.otadata.specs.Records.{good}
-use Rattle.otadata.specs.Sectors.{recordIn, blank, readsAs, cut, Reply, singleStore, rewrite}
+use Rattle.otadata.specs.Sectors.{recordIn, blank, readsAs, cut, Reply, reply, singleStore, rewrite}
+
+-- a cut is what single stores leave: store k, called on a sector cut at k, replies 0 and leaves it cut at k + 1
+unfoldable pub StoreByStore : Type 0
+StoreByStore =
+    (s rec : List ℕ) (k : ℕ) → length s ≡ 4096 → length rec ≡ 32 → k < 4128
+    → singleStore (cut rec k s) rec k ≡ reply 0 (cut rec (k + 1) s)
 
 -- ---- the calls on one sector
 
