@@ -10,7 +10,7 @@ use lib.Bits.{bitXor, differ, xor-step, xor-shr, xor-comm, xor-self, xor-zero-l,
 use borrow.Author.Tests.{eq-eqb, ne-eqb}
 use Rattle.otadata.specs.Words.{polynomial, shift, feeds, checkWord}
 
--- feeding one bit of n
+-- the register bit by bit, as the loop counts
 pub feeds-more : (n r x : ℕ) → feeds (suc n) r x ≡ feeds n (shift (bitXor r (x % 2))) (x / 2)
 unfolding feeds
 feeds-more n r x = refl
@@ -173,7 +173,3 @@ unfolding checkWord
 check-word-one-to-one p q lp lq e =
     shifts-inj 32 p q lp lq
     (omega (arith, feeds-shifts p lp, feeds-shifts q lq, shifts-lt 32 p lp, shifts-lt 32 q lq))
-
-pub check-word-lt : (q : ℕ) → checkWord q < 2 ^ 32
-unfolding checkWord
-check-word-lt q = omega arith

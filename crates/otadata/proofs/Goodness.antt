@@ -6,7 +6,7 @@ use mathlib.Core.Bool.{Bool, true, false, not, _&&_}
 use mathlib.Core.List.{List}
 use lib.Dec.{eqb, leb}
 use lib.ListN.{length}
-use borrow.Author.Tests.{eq-eqb, ne-eqb, not-true, not-false, eqb-true, leb-true, le-leb}
+use borrow.Author.Tests.{eq-eqb, ne-eqb, not-true, not-false, eqb-true, leb-true}
 use Rattle.otadata.specs.Words.{checkWord}
 use Rattle.otadata.specs.Records.{sequenceField, stateField, checkField, isSequence, isState, good}
 use Rattle.otadata.proofs.Booleans.{both}
@@ -37,11 +37,6 @@ is-good rec g =
       check = eqb-true _ _ (third .1);
       state = last .1;
     }
-
-pub good-is : (rec : List ℕ) → IsGood rec → good rec ≡ true
-unfolding good
-good-is rec g =
-    simp (eq-eqb _ _ (g .size), le-leb _ _ (g .from-one), le-leb _ _ (g .to-last), eq-eqb _ _ (g .check), g .state)
 
 -- ---- as the reader's tests decide it
 
