@@ -14,7 +14,7 @@ use Rattle.otadata.specs.declared.Reading.{Reading}
 use Rattle.otadata.specs.declared.Holder.{Holder}
 use Rattle.otadata.specs.declared.Holder.the-variants.{None, Sector}
 use Rattle.otadata.specs.Records.{usable, noReading}
-use Rattle.otadata.specs.Sectors.{recordIn, readings, sequenceIn, ofUsable, active, activeRecord}
+use Rattle.otadata.specs.Sectors.{Part, recordPart, activePart, readings, sequenceIn, ofUsable, active}
 
 -- below the length, the default does not count
 pub default : (rs : List Reading) (k : ℕ) (d e : Reading) → k < length rs → getD rs k d ≡ getD rs k e
@@ -48,17 +48,17 @@ module _ (rs : List Reading) (size : length rs ≡ 2) (d : Reading) where
       first-higher l =
           sym (by-readings ∙ simp (← tested0, ← tested1, not-false t0 y0, not-false t1 y1, ← read0, ← read1, le-ltb _ _ l))
 
--- ---- the active record's bytes
+-- ---- the active record as a part of its sector
 
-module _ (first second : List ℕ) (rs : List Reading) (both : rs ≡ readings first second) (h : Holder) (found : h ≡ active rs) where
-  pub none-active : h ≡ None → [] ≡ activeRecord first second
-  unfolding activeRecord
-  none-active e = simp (← both, ← found, e)
+module _ (first second : Part) (rs : List Reading) (both : rs ≡ readings (first .content) (second .content)) (h : Holder) (found : h ≡ active rs) where
+  pub none-active : h ≡ None → (r : Part) → r ≡ record { place = first .place; content = [] } → r ≡ activePart first second
+  unfolding activePart
+  none-active e r er = er ∙ simp (← both, ← found, e)
 
-  pub first-active : (k : ℕ) → h ≡ Sector k → k ≡ 0 → (r : List ℕ) → r ≡ recordIn first → r ≡ activeRecord first second
-  unfolding activeRecord
+  pub first-active : (k : ℕ) → h ≡ Sector k → k ≡ 0 → (r : Part) → r ≡ recordPart first → r ≡ activePart first second
+  unfolding activePart
   first-active k e z r er = er ∙ simp (← both, ← found, e, eq-eqb _ _ z)
 
-  pub second-active : (k : ℕ) → h ≡ Sector k → (k ≡ 0 → ⊥) → (r : List ℕ) → r ≡ recordIn second → r ≡ activeRecord first second
-  unfolding activeRecord
+  pub second-active : (k : ℕ) → h ≡ Sector k → (k ≡ 0 → ⊥) → (r : Part) → r ≡ recordPart second → r ≡ activePart first second
+  unfolding activePart
   second-active k e n r er = er ∙ simp (← both, ← found, e, ne-eqb _ _ n)

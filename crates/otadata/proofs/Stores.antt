@@ -10,7 +10,7 @@ use native.Mathlib.Omega.{arith}
 use lib.Dec.{eqb}
 use lib.ListN.{length, getD, set, length-set}
 use borrow.Author.Tests.{eq-eqb, ne-eqb, eqb-true, lt-ltb, le-ltb, not-true, not-false}
-use Rattle.otadata.specs.Sectors.{stored, cut, Reply, reply, sized, singleStore, rewrite}
+use Rattle.otadata.specs.Sectors.{recordByte, stored, cut, Reply, reply, sized, singleStore, rewrite}
 use Rattle.otadata.proofs.Booleans.{both}
 use Rattle.otadata.proofs.Numbers.{le-or-lt}
 
@@ -43,7 +43,7 @@ module _ (s rec : List ℕ) (m : ℕ) where
   unfolding stored
   erases l = simp (lt-ltb _ _ l)
 
-  pub programs : 4096 ≤ m → set s (31 - (m - 4096)) (getD rec (31 - (m - 4096)) 0) ≡ stored rec m s
+  pub programs : 4096 ≤ m → set s (recordByte m) (getD rec (recordByte m) 0) ≡ stored rec m s
   unfolding stored
   programs l = simp (le-ltb _ _ l)
 
@@ -75,7 +75,7 @@ module _ (s rec : List ℕ) (m : ℕ) where
     erased-byte y l = ap (reply 0) (erases l) ∙ store-done (right s rec t tested y) (omega arith)
 
     pub programmed-byte : not t ≡ false → 4096 ≤ m → m < 4128
-        → reply 0 (set s (31 - (m - 4096)) (getD rec (31 - (m - 4096)) 0)) ≡ singleStore s rec m
+        → reply 0 (set s (recordByte m) (getD rec (recordByte m) 0)) ≡ singleStore s rec m
     programmed-byte y h l = ap (reply 0) (programs h) ∙ store-done (right s rec t tested y) l
 
 -- ---- a rewrite store by store

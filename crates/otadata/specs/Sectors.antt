@@ -3,6 +3,7 @@ use Prim.Native.Nat.{ℕ, zero, suc, _-_}
 use mathlib.Core.Path.{_≡_}
 use mathlib.Core.Bool.{Bool, true, false, cond, _&&_}
 use mathlib.Core.List.{List, [], _∷_}
+use denote.Ref.{RefT}
 use lib.Dec.{eqb, ltb}
 use lib.ListN.{length, getD, set, take, replicate}
 use Rattle.otadata.specs.declared.Verdict.{Verdict}
@@ -55,20 +56,36 @@ active rs =
     let second = getD rs 1 noReading in
     ofUsable (usable first) (usable second) (ltb (sequenceIn (first .verdict)) (sequenceIn (second .verdict)))
 
--- the record in the sector of that number, or none
-abbrev pub recordAt : Holder → List ℕ → List ℕ → List ℕ
-recordAt None first second = []
-recordAt (Sector k) first second = cond (eqb k 0) (recordIn first) (recordIn second)
+-- a part of what was lent: where it begins, and its bytes
+pub record Part : Type 0 where
+  pub place : ℕ × ℕ
+  pub content : List ℕ
 
--- the active record's 32 bytes, or none
-unfoldable pub activeRecord : List ℕ → List ℕ → List ℕ
-activeRecord first second = recordAt (active (readings first second)) first second
+abbrev pub part : RefT (List ℕ) → Part
+part s = record { place = s .ptr; content = s .now }
+
+-- the record of a sector, as a part of it
+abbrev pub recordPart : Part → Part
+recordPart s = record { place = s .place; content = recordIn (s .content) }
+
+-- the record in the sector of that number; where there is none, an empty part
+abbrev pub partAt : Holder → Part → Part → Part
+partAt None first second = record { place = first .place; content = [] }
+partAt (Sector k) first second = cond (eqb k 0) (recordPart first) (recordPart second)
+
+-- the active record, as a part of whichever sector holds it
+unfoldable pub activePart : Part → Part → Part
+activePart first second = partAt (active (readings (first .content) (second .content))) first second
 
 -- ---- rewriting
 
--- store m: below 4,096 it sets byte m to 0xFF, from 4,096 on it sets record byte 31 - (m - 4,096)
+-- the record byte that store m sets, from 4,096 on
+abbrev pub recordByte : ℕ → ℕ
+recordByte m = 31 - (m - 4096)
+
+-- store m: below 4,096 it sets byte m to 0xFF, from 4,096 on the record byte of m
 unfoldable pub stored : List ℕ → ℕ → List ℕ → List ℕ
-stored rec m s = cond (ltb m 4096) (set s m 255) (set s (31 - (m - 4096)) (getD rec (31 - (m - 4096)) 0))
+stored rec m s = cond (ltb m 4096) (set s m 255) (set s (recordByte m) (getD rec (recordByte m) 0))
 
 -- document 01's term *cut*: a rewrite cut at k has stores 0 to k - 1 done in order
 unfoldable pub cut : List ℕ → ℕ → List ℕ → List ℕ

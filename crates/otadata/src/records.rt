@@ -59,13 +59,14 @@ fn good(rec: &[u8]) -> bool
         return false;
     }
     let sequence = word_at(rec, 0);
+    let state = word_at(rec, 24);
     if !is_sequence(sequence) {
         return false;
     }
     if word_at(rec, 28) != check_word(Sequence(sequence)) {
         return false;
     }
-    is_state(word_at(rec, 24))
+    is_state(state)
 }
 
 fn is_sequence(word: u32) -> bool

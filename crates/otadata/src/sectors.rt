@@ -1,7 +1,7 @@
 // The two otadata sectors: reading them, the active record, and rewriting one.
 ghost use mathlib.Core.Path.{_≡_};
-ghost use Rattle.otadata.specs.Sectors.{recordIn, sectorReading, readings as Sectors·readings, sequenceIn, active as Sectors·active, activeRecord};
-ghost use Rattle.otadata.specs.Sectors.{sized as Sectors·sized, reply, singleStore, rewrite as Sectors·rewrite};
+ghost use Rattle.otadata.specs.Sectors.{sectorReading, readings as Sectors·readings, sequenceIn, active as Sectors·active};
+ghost use Rattle.otadata.specs.Sectors.{part, recordPart, activePart, sized as Sectors·sized, reply, singleStore, rewrite as Sectors·rewrite};
 use crate::DONE;
 use crate::Holder;
 use crate::NO_SUCH_STORE;
@@ -16,7 +16,7 @@ use crate::records::usable;
 
 // The record of a sector: its first 32 bytes, or an empty part of bytes that are no sector.
 fn record_part(sector: &[u8]) -> &[u8]
-    ensures { λ r. ⌜ now r ≡ recordIn (now (sector .entry)) ⌝ }
+    ensures { λ r. ⌜ part r ≡ recordPart (part (sector .entry)) ⌝ }
 {
     if sector.len() == SECTOR_SIZE {
         return &sector[..RECORD_SIZE];
@@ -72,7 +72,7 @@ fn sequence_of(reading: Reading) -> u32
 
 // The active record's 32 bytes, as a part of the sector that holds it, or an empty part.
 pub fn active_record<'a>(first: &'a [u8], second: &'a [u8]) -> &'a [u8]
-    ensures { λ r. ⌜ now r ≡ activeRecord (now (first .entry)) (now (second .entry)) ⌝ }
+    ensures { λ r. ⌜ part r ≡ activePart (part (first .entry)) (part (second .entry)) ⌝ }
 {
     let holder = active(readings(first, second));
     match holder {

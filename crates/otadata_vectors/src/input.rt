@@ -40,6 +40,12 @@ pub(crate) fn part(bytes: &[u8], at: usize, n: usize) -> &[u8] {
     &bytes[from..from + to]
 }
 
+// The first n bytes, or all where there are fewer, to be written.
+pub(crate) fn front(bytes: &mut [u8], n: usize) -> &mut [u8] {
+    let size = least(n, bytes.len());
+    &mut bytes[..size]
+}
+
 // Lays the record at the front, and `fill` after it.
 pub(crate) fn lay(bytes: &mut [u8], fill: u8, rec: &[u8]) {
     for i in 0..bytes.len() {

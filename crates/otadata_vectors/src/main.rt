@@ -3,6 +3,7 @@ mod input;
 mod output;
 
 use input::byte;
+use input::front;
 use input::laid;
 use input::lay;
 use input::least;
@@ -109,9 +110,8 @@ fn store(case: &[u8]) {
     let before = laid(byte(case, 20), part(case, 24, 32));
     let mut sector = before;
     let rec = part(case, 56, word(case, 8) as usize);
-    let number = store_in(
-        &mut sector,
-        word(case, 4) as usize,
+    let number = otadata::store(
+        front(&mut sector, word(case, 4) as usize),
         rec,
         word(case, 12) as usize,
     );
@@ -120,26 +120,14 @@ fn store(case: &[u8]) {
     print_changes(&before, &sector);
 }
 
-// A single store on the first n bytes.
-fn store_in(sector: &mut [u8], n: usize, rec: &[u8], m: usize) -> u32 {
-    let size = least(n, sector.len());
-    otadata::store(&mut sector[..size], rec, m)
-}
-
 // A whole rewrite: the record, and how many of the bytes after it are 0xFF.
 fn rewrite(case: &[u8]) {
     let mut sector = laid(byte(case, 20), part(case, 24, 32));
     let rec = part(case, 56, word(case, 8) as usize);
-    let number = rewrite_in(&mut sector, word(case, 4) as usize, rec);
+    let number = otadata::rewrite(front(&mut sector, word(case, 4) as usize), rec);
     print(b"rewrite ");
     print_number(number as u64);
     print_erased(&sector);
-}
-
-// A whole rewrite of the first n bytes.
-fn rewrite_in(sector: &mut [u8], n: usize, rec: &[u8]) -> u32 {
-    let size = least(n, sector.len());
-    otadata::rewrite(&mut sector[..size], rec)
 }
 
 // A rewrite cut at k, store by store, and what the sector then reads as.

@@ -11,23 +11,23 @@ returns c = search wrong-size
 word-at-requires : tie.Need-word-at-requires
 word-at-requires c κs = search needs
 
+word-at-requires-2 : tie.Need-word-at-requires-2
+word-at-requires-2 c κs = search needs
+
 is-sequence-requires : tie.Need-is-sequence-requires
 is-sequence-requires c κs = search needs
 
 returns-2 : tie.Need-returns-2
 returns-2 c = search wrong-sequence
 
-word-at-requires-2 : tie.Need-word-at-requires-2
-word-at-requires-2 c κs = search needs
+word-at-requires-3 : tie.Need-word-at-requires-3
+word-at-requires-3 c κs = search needs
 
 check-word-requires : tie.Need-check-word-requires
 check-word-requires c κs = search needs
 
 returns-3 : tie.Need-returns-3
 returns-3 c = search wrong-check
-
-word-at-requires-3 : tie.Need-word-at-requires-3
-word-at-requires-3 c κs = search needs
 
 is-state-requires : tie.Need-is-state-requires
 is-state-requires c κs = search needs
@@ -41,11 +41,11 @@ good-spec =
     (tie.spec
     returns
     word-at-requires
+    word-at-requires-2
     is-sequence-requires
     returns-2
-    word-at-requires-2
+    word-at-requires-3
     check-word-requires
     returns-3
-    word-at-requires-3
     is-state-requires
     returns-4)

@@ -3,6 +3,7 @@
 use borrow.Author.Needs.{needs}
 use mathlib.Core.Path.{_∙_, ap}
 use Rattle.otadata.specs.Records.{reading}
+use Rattle.otadata.specs.Sectors.{Part}
 use Rattle.otadata.proofs.sectors.read_sector.Statement.{statement}
 use Rattle.otadata.proofs.sectors.read_sector.Tie as tie
 
@@ -13,7 +14,7 @@ read-requires : tie.Need-read-requires
 read-requires c κs = search needs
 
 returns : tie.Need-returns
-returns c = c .read .ensures ∙ ap reading (c .before .record-part .ensures)
+returns c = c .read .ensures ∙ ap (λ (p : Part). reading (p .content)) (c .before .record-part .ensures)
 
 pub read-sector-spec : {M : Type 1} → statement M
 read-sector-spec = tie.close (tie.spec record-part-requires read-requires returns)

@@ -1,0 +1,21 @@
+-- `otadata_vectors::input::front` is safe and ends: the part is within the slice.
+-- Assumes nothing.
+use mathlib.Core.Path.{sym}
+use denote.Ref.{now}
+use lib.Seq.{length-take-le}
+use native.Mathlib.Omega.{arith}
+use borrow.Author.Needs.{needs}
+use Rattle.otadata_vectors.proofs.input.front.Statement.{statement}
+use Rattle.otadata_vectors.proofs.input.front.Tie as tie
+
+least-requires : tie.Need-least-requires
+least-requires c κs = search needs
+
+slice-aggregate-result : tie.Need-slice-aggregate-result
+slice-aggregate-result c = sym (length-take-le (c .before .least .result) (now (c .before .before .before .args .bytes)) (omega arith))
+
+returns : tie.Need-returns
+returns c = search needs
+
+pub front-spec : {M : Type 1} → statement M
+front-spec = tie.close (tie.spec least-requires slice-aggregate-result returns)
