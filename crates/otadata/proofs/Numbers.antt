@@ -1,8 +1,11 @@
--- Cases on numbers.
+-- Cases on numbers, and tests that say the same.
 -- Assumes nothing.
 use Prim.Native.Nat.{ℕ, zero, suc, _<_, _≤_}
+use mathlib.Core.Path.{_≡_, _∙_, sym}
 use mathlib.Core.Logic.{_⊎_, inl, inr, ⊎-elim}
 use native.Mathlib.Omega.{arith}
+use lib.Dec.{ltb}
+use borrow.Author.Tests.{lt-ltb, le-ltb}
 
 pub le-or-lt : (a b : ℕ) → (a ≤ b) ⊎ (b < a)
 le-or-lt zero b = inl (omega arith)
@@ -16,3 +19,11 @@ below-four P p0 p1 p2 p3 (suc zero) l = p1
 below-four P p0 p1 p2 p3 (suc (suc zero)) l = p2
 below-four P p0 p1 p2 p3 (suc (suc (suc zero))) l = p3
 below-four P p0 p1 p2 p3 (suc (suc (suc (suc i)))) l = absurd (omega arith)
+
+-- two tests that hold of the same numbers
+pub same-ltb : (a b c d : ℕ) → (a < b → c < d) → (b ≤ a → d ≤ c) → ltb a b ≡ ltb c d
+same-ltb a b c d to not-to =
+    ⊎-elim
+    (λ (l : b ≤ a). le-ltb a b l ∙ sym (le-ltb c d (not-to l)))
+    (λ (l : a < b). lt-ltb a b l ∙ sym (lt-ltb c d (to l)))
+    (le-or-lt b a)

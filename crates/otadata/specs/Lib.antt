@@ -1,3 +1,4 @@
+pub mod Answers
 pub mod Words
 pub mod Records
 pub mod RoundTrip

@@ -13,6 +13,7 @@ pub use sectors::readings;
 pub use sectors::rewrite;
 pub use sectors::store;
 pub use words::check_word;
+pub use words::word_of;
 
 // Sizes in bytes, and the number of stores of a rewrite.
 pub const SECTOR_SIZE: usize = 4096;

@@ -1,6 +1,6 @@
 // Little-endian words, and the check word of a sequence.
 ghost use mathlib.Core.Path.{_≡_};
-ghost use Prim.Native.Nat.{_+_, _≤_, _<_};
+ghost use Prim.Native.Nat.{_+_, _*_, _≤_, _<_};
 ghost use lib.ListN.{length};
 ghost use Rattle.otadata.specs.Words.{word, byteOf, shift as Words·shift, checkWord};
 use crate::Sequence;
@@ -30,10 +30,11 @@ fn shift(register: u32) -> u32
     (register / 2) ^ POLYNOMIAL
 }
 
-fn wide(byte: u8) -> u32
-    ensures { λ r. ⌜ (r ≡ byte) × (r < 256) ⌝ }
+// The word of four bytes, the lowest first.
+pub fn word_of(b0: u8, b1: u8, b2: u8, b3: u8) -> u32
+    ensures { λ r. ⌜ r ≡ b0 + 256 * b1 + 65536 * b2 + 16777216 * b3 ⌝ }
 {
-    byte as u32
+    b0 as u32 + 256 * (b1 as u32) + 65536 * (b2 as u32) + 16777216 * (b3 as u32)
 }
 
 // The word in the four bytes from `at`.
@@ -41,10 +42,7 @@ pub(crate) fn word_at(bytes: &[u8], at: usize) -> u32
     requires { ⌜ at + 4 ≤ length (now bytes) ⌝ }
     ensures { λ r. ⌜ r ≡ word (now (bytes .entry)) at ⌝ }
 {
-    wide(bytes[at])
-        + 256 * wide(bytes[at + 1])
-        + 65536 * wide(bytes[at + 2])
-        + 16777216 * wide(bytes[at + 3])
+    word_of(bytes[at], bytes[at + 1], bytes[at + 2], bytes[at + 3])
 }
 
 // Byte i of a word.

@@ -2,13 +2,9 @@
 mod input;
 mod output;
 
-use input::byte;
 use input::front;
 use input::laid;
 use input::lay;
-use input::least;
-use input::part;
-use input::word;
 use libc::STDIN_FILENO;
 use otadata::Holder;
 use otadata::Reading;
@@ -20,6 +16,10 @@ use output::print_changes;
 use output::print_erased;
 use output::print_number;
 use output::print_reading;
+use vector_cases::byte;
+use vector_cases::least;
+use vector_cases::part;
+use vector_cases::word;
 
 fn main() {
     let mut case = [0u8; 128];

@@ -1,8 +1,8 @@
 // Lines of output.
-use crate::input::part;
 use libc::STDOUT_FILENO;
 use otadata::Reading;
 use otadata::Verdict;
+use vector_cases::part;
 
 pub(crate) fn print(text: &[u8]) {
     io::write_all(STDOUT_FILENO, text);

@@ -1,0 +1,6 @@
+pub mod Acceptance
+pub mod Examples
+pub mod Refusals
+pub mod Segments
+pub mod Tail
+pub mod Xored

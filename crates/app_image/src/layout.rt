@@ -1,0 +1,89 @@
+// The layout of an image: its words, the walk over its segments, the checksum of their data, and its whole length.
+ghost use mathlib.Core.Path.{_≡_};
+ghost use Prim.Native.Nat.{_+_, _≤_, _<_, _^_};
+ghost use mathlib.Core.Bool.{false};
+ghost use lib.ListN.{length};
+ghost use Rattle.otadata.specs.Words.{word};
+ghost use Rattle.app_image.specs.Layout.{headerSize, badSegment, dataEnd, segmentsFrom, walked, xored as Layout·xored, padded as Layout·padded, wholeLength};
+use crate::Walked;
+use otadata::word_of;
+
+pub(crate) const HEADER_SIZE: usize = 24;
+
+const SEGMENT_HEADER_SIZE: usize = 8;
+
+// The word in the four bytes from `at`.
+pub(crate) fn word_at(image: &[u8], at: usize) -> u32
+    requires { ⌜ at + 4 ≤ length (now image) ⌝ }
+    ensures { λ r. ⌜ r ≡ word (now (image .entry)) at ⌝ }
+{
+    word_of(image[at], image[at + 1], image[at + 2], image[at + 3])
+}
+
+// Walks over that many segments.
+pub(crate) fn walk(image: &[u8], count: u8) -> Walked
+    requires { ⌜ headerSize ≤ length (now image) ⌝ }
+    ensures { λ r. ⌜ r ≡ walked (now (image .entry)) (segmentsFrom (now (image .entry)) count headerSize) ⌝ }
+{
+    let mut at = HEADER_SIZE;
+    let mut sum: u8 = 0xEF;
+    for _ in 0..count {
+        if bad_segment(image, at) {
+            return Walked::Bad(at);
+        }
+        let end = data_end(image, at);
+        sum = xored(sum, &image[at + SEGMENT_HEADER_SIZE..end]);
+        at = end;
+    }
+    Walked::Ends(at, sum)
+}
+
+// Whether the segment at `at` passes the end of the image, or has a length that is no multiple of 4.
+fn bad_segment(image: &[u8], at: usize) -> bool
+    requires { ⌜ at ≤ length (now image) ⌝ }
+    ensures { λ r. ⌜ r ≡ badSegment (now (image .entry)) at ⌝ }
+{
+    if image.len() - at < SEGMENT_HEADER_SIZE {
+        return true;
+    }
+    let size = word_at(image, at + 4) as usize;
+    if size % 4 != 0 {
+        return true;
+    }
+    image.len() - at - SEGMENT_HEADER_SIZE < size
+}
+
+// Where the data of the segment at `at` ends.
+fn data_end(image: &[u8], at: usize) -> usize
+    requires { ⌜ badSegment (now image) at ≡ false ⌝ }
+    ensures { λ r. ⌜ (r ≡ dataEnd (now (image .entry)) at) × (r ≤ length (now (image .entry))) ⌝ }
+{
+    at + SEGMENT_HEADER_SIZE + word_at(image, at + 4) as usize
+}
+
+// The sum xored with every byte.
+fn xored(sum: u8, bytes: &[u8]) -> u8
+    ensures { λ r. ⌜ r ≡ Layout·xored sum (now (bytes .entry)) ⌝ }
+{
+    let mut sum = sum;
+    for i in 0..bytes.len() {
+        sum = sum ^ bytes[i];
+    }
+    sum
+}
+
+// The length of an image up to the end of its padding, which goes to the next multiple of 16 above e.
+pub(crate) fn padded(e: usize) -> usize
+    requires { ⌜ e < 2 ^ 63 ⌝ }
+    ensures { λ r. ⌜ r ≡ Layout·padded e ⌝ }
+{
+    (e / 16 + 1) * 16
+}
+
+// The whole length of an image whose segments end at e: a digest flag of 1 adds 32 bytes.
+pub(crate) fn whole_length(flag: u8, e: usize) -> usize
+    requires { ⌜ e < 2 ^ 63 ⌝ }
+    ensures { λ r. ⌜ r ≡ wholeLength flag e ⌝ }
+{
+    padded(e) + 32 * (flag as usize)
+}

@@ -1,0 +1,59 @@
+// The check of an app image.
+mod checks;
+mod layout;
+
+pub use checks::check;
+use efuse::SecureVersion;
+
+// Document 01's numbers of a refused image.
+pub const TOO_SHORT: u32 = 20;
+
+pub const WRONG_MAGIC: u32 = 21;
+
+pub const WRONG_SEGMENT_COUNT: u32 = 22;
+
+pub const WRONG_CHIP: u32 = 23;
+
+pub const WRONG_DIGEST_FLAG: u32 = 24;
+
+pub const BAD_SEGMENT: u32 = 25;
+
+pub const NO_DESCRIPTOR: u32 = 26;
+
+pub const CUT_SHORT: u32 = 27;
+
+pub const WRONG_CHECKSUM: u32 = 28;
+
+pub const VERSION_TOO_HIGH: u32 = 29;
+
+// Why an image is refused: document 01's number, and the place in the image.
+pub struct Refusal {
+    pub number: u32,
+    pub place: usize,
+}
+
+// What is known of an accepted image: its whole length, its entry address, its secure version and its number of segments.
+pub struct Facts {
+    pub length: usize,
+    pub entry: u32,
+    pub version: SecureVersion,
+    pub segments: u32,
+}
+
+// The answer of the check.
+pub enum Checked {
+    Refused(Refusal),
+    Accepted(Facts),
+}
+
+// The outcome of some of its tests.
+pub(crate) enum Tested {
+    Passed,
+    Failed(Refusal),
+}
+
+// Where the segments end and the checksum of their data, or where the first bad one begins.
+pub(crate) enum Walked {
+    Bad(usize),
+    Ends(usize, u8),
+}

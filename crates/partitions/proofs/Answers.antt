@@ -1,0 +1,59 @@
+-- The answers of `check` and `app_part`, as their tests decide them.
+-- Assumes nothing.
+use Prim.Native.Nat.{ℕ, _+_, _-_, _<_, _≤_}
+use mathlib.Core.Path.{_≡_, _∙_, sym}
+use mathlib.Core.Bool.{Bool, true, false, not}
+use mathlib.Core.List.{List, []}
+use native.Mathlib.Nat.{add-comm}
+use native.Mathlib.Omega.{arith}
+use lib.Dec.{eqb}
+use lib.ListN.{length, take, drop}
+use borrow.Author.Tests.{lt-ltb, le-ltb, not-true, not-false}
+use Rattle.otadata.specs.Sectors.{Part}
+use Rattle.partitions.specs.declared.App.{App}
+use Rattle.partitions.specs.declared.Checked.the-variants.{Refused, Accepted}
+use Rattle.partitions.specs.PartitionList.{entryCount, entryAt, endOf, timesListed, factorySubtype, maxSlots, right, checked, subtypeOf, entryOf, appPart}
+use Rattle.partitions.proofs.ListRules.{IsRight, is-right}
+
+-- ---- the test of a list
+
+module _ (list : List ℕ) (capacity : ℕ) (t : Bool) (tested : t ≡ right list capacity) where
+  pub refused : not t ≡ true → Refused 1 ≡ checked list capacity
+  unfolding checked
+  refused n = simp (← tested, not-true t n)
+
+  module _ (y : not t ≡ false) where
+    pub known-right : IsRight list capacity
+    known-right = is-right list capacity (sym tested ∙ not-false t y)
+
+    pub few-entries : entryCount list ≤ maxSlots + 1
+    few-entries = omega (arith, known-right .eight, known-right .factory)
+
+    module _ (f : ℕ) (counted : f ≡ timesListed list factorySubtype) where
+      pub accepted : Accepted (record { slots = entryCount list - f; factory = eqb f 1 }) ≡ checked list capacity
+      unfolding checked
+      accepted = simp (← tested, not-false t y, ← counted)
+
+-- ---- the part of an app
+
+module _ (list : List ℕ) (flash : Part) (app : App) (t : Bool) (tested : t ≡ right list (length (flash .content))) where
+  pub of-no-list : not t ≡ true → _≡_ {A = Part} (record { place = flash .place; content = [] }) (appPart list flash app)
+  unfolding appPart
+  of-no-list n = simp (← tested, not-true t n)
+
+  module _ (y : not t ≡ false) (k : ℕ) (named : k ≡ subtypeOf app) (i : ℕ) (found : i ≡ entryOf list k) where
+    pub of-no-entry : entryCount list ≤ i → _≡_ {A = Part} (record { place = flash .place; content = [] }) (appPart list flash app)
+    unfolding appPart
+    of-no-entry l = simp (← tested, not-false t y, ← named, ← found, le-ltb i (entryCount list) l)
+
+    module _ (l : i < entryCount list) (o e : ℕ) (of-offset : o ≡ entryAt list i .offset) (of-end : e ≡ endOf (entryAt list i)) where
+      pub ends-within : e ≤ length (flash .content)
+      ends-within = omega (arith, known-right list (length (flash .content)) t tested y .entries i l .ends)
+
+      pub of-entry :
+          _≡_ {A = Part} (record { place = (flash .place .0, o + flash .place .1); content = take (e - o) (drop o (flash .content)) })
+          (appPart list flash app)
+      unfolding appPart
+      of-entry =
+          let size : entryAt list i .size ≡ e - o = omega arith in
+          simp (← tested, not-false t y, ← named, ← found, lt-ltb i (entryCount list) l, ← of-offset, size, add-comm o (flash .place .1))

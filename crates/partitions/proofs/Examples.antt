@@ -1,0 +1,64 @@
+-- The definitions evaluated on short lists: some that keep the rules, and for each rule one that breaks it.
+-- Assumes nothing.
+use Prim.Native.Nat.{ℕ, suc, zero, _+_, _*_}
+use mathlib.Core.Path.{_≡_, refl}
+use mathlib.Core.List.{List, [], _∷_, _++_, map}
+use lib.ListN.{replicate}
+use Rattle.partitions.specs.PartitionList.{everyBelow, countBelow, right, checked, view}
+
+-- an entry's three words
+abbrev entry : ℕ → ℕ → ℕ → List ℕ
+entry subtype offset size = subtype ∷ offset ∷ size ∷ []
+
+-- n slots of 65,536 bytes from 65,536 on, one after the other
+abbrev slotsInRow : ℕ → List ℕ
+slotsInRow zero = []
+slotsInRow (suc n) = slotsInRow n ++ entry (16 + n) (65536 * (n + 1)) 65536
+
+-- ---- right
+
+two-slots : view (checked (slotsInRow 2) 196608) ≡ record { number = 0; values = 2 ∷ 0 ∷ [] }
+unfolding checked right everyBelow countBelow
+two-slots = refl
+
+-- factory last, the slots in another order, no room between the three, and the last ends with the flash
+factory-last :
+    view (checked (entry 17 65536 65536 ++ entry 16 131072 131072 ++ entry 0 262144 4096) 266240) ≡ record { number = 0; values = 2 ∷ 1 ∷ [] }
+unfolding checked right everyBelow countBelow
+factory-last = refl
+
+eight-slots : view (checked (slotsInRow 8 ++ entry 0 0 4096) 16777216) ≡ record { number = 0; values = 8 ∷ 1 ∷ [] }
+unfolding checked right everyBelow countBelow
+eight-slots = refl
+
+-- ---- refused, in the largest flash
+
+refused-lists : List (List ℕ)
+refused-lists =
+    -- no slot, one slot, nine slots
+    []
+    ∷ (slotsInRow 1 ++ entry 0 0 65536)
+    ∷ slotsInRow 9
+    -- a broken triple; factory twice; a slot twice, or left out; another subtype
+    ∷ (slotsInRow 2 ++ 0 ∷ [])
+    ∷ (entry 0 524288 65536 ++ slotsInRow 2 ++ entry 0 262144 65536)
+    ∷ (slotsInRow 2 ++ entry 17 524288 65536)
+    ∷ (slotsInRow 2 ++ entry 19 524288 65536)
+    ∷ (slotsInRow 2 ++ entry 1 524288 65536)
+    -- half a block as offset, half a sector as size, and size 0
+    ∷ (slotsInRow 1 ++ entry 17 163840 65536)
+    ∷ (slotsInRow 1 ++ entry 17 131072 2048)
+    ∷ (slotsInRow 1 ++ entry 17 131072 0)
+    -- a sector past the flash; an end of 2 ^ 32, which does not wrap; an overlap of one sector
+    ∷ (slotsInRow 1 ++ entry 17 16711680 69632)
+    ∷ (slotsInRow 1 ++ entry 17 4294901760 65536)
+    ∷ (entry 16 65536 69632 ++ entry 17 131072 65536)
+    ∷ []
+
+each-refused : map (λ (list : List ℕ). view (checked list 16777216)) refused-lists ≡ replicate 14 (record { number = 1; values = [] })
+unfolding refused-lists checked right everyBelow countBelow
+each-refused = refl
+
+flash-too-large : view (checked (slotsInRow 2) 16777217) ≡ record { number = 1; values = [] }
+unfolding checked right everyBelow countBelow
+flash-too-large = refl

@@ -1,0 +1,14 @@
+-- `vector_cases::least` meets its contract: the test picks the lesser.
+-- Assumes nothing.
+use native.Mathlib.Omega.{arith}
+use Rattle.vector_cases.proofs.least.Statement.{statement}
+use Rattle.vector_cases.proofs.least.Tie as tie
+
+returns : tie.Need-returns
+returns c = omega arith
+
+returns-2 : tie.Need-returns-2
+returns-2 c = omega arith
+
+pub least-spec : {M : Type 1} → statement M
+least-spec = tie.close (tie.spec returns returns-2)

@@ -1,0 +1,545 @@
+#!/usr/bin/env python3
+"""Makes the cases of the program layer_vectors, and what it must print for each.
+
+Written from document 01 and independent of the Rattle code.
+  layers.py           writes crates/layer_vectors/stdin and stdout
+  layers.py --check   fails where the two files are not what this script makes
+
+The program has a buffer of 1,048,576 bytes, zero at first. Fill and patch change it and print nothing; fill makes byte i
+(7 i + 13 (i / 256) + 29 (i / 65,536)) mod 256. The flash of a part and the image of a check are its first bytes.
+A case is 128 bytes; numbers are little-endian:
+    0  kind: 1 version, 2 raise, 3 list, 4 part, 5 fill, 6 patch, 7 image
+    1  the app of a part: 0 factory, 1 a slot
+    2  number of the list's words (2 bytes), at most 300
+    4  register, slot number, start of a fill, offset of a patch, or length of the image
+    8  secure version, end of a fill, number of bytes of a patch, chip id, or length of the flash (8 bytes)
+   16  the list's first 28 words, of which 24 to 26 repeat after them, or the bytes of a patch
+"""
+import itertools
+import pathlib
+import random
+import struct
+import sys
+
+HERE = pathlib.Path(__file__).resolve().parents[2] / "crates" / "layer_vectors"
+BUFFER = 1 << 20
+FLASH = 16_777_216
+SECTOR = 4096
+ALIGN = 65536
+LAST = 0xFFFFFFFF
+
+
+# ---- the rules of document 01
+
+def version(register):
+    return bin(register).count("1")
+
+
+def raised(register, v):
+    for k in range(32):
+        if version(register) >= v:
+            break
+        register |= 1 << k
+    return register
+
+
+def listing(words, flash):
+    """The entries of a list that keeps the rules, by subtype, or None."""
+    if flash > FLASH or len(words) % 3 != 0:
+        return None
+    entries = [words[i:i + 3] for i in range(0, len(words), 3)]
+    by_subtype = {subtype: (offset, offset + size) for subtype, offset, size in entries}
+    slots = sorted(subtype for subtype in by_subtype if subtype != 0)
+    if len(by_subtype) != len(entries) or not 2 <= len(slots) <= 8 or slots != list(range(16, 16 + len(slots))):
+        return None
+    for _, offset, size in entries:
+        if offset % ALIGN != 0 or size == 0 or size % SECTOR != 0 or offset + size > flash:
+            return None
+    ranges = sorted(by_subtype.values())
+    if any(before[1] > after[0] for before, after in zip(ranges, ranges[1:])):
+        return None
+    return by_subtype
+
+
+def app_part(words, flash, subtype):
+    """The part of the flash of an app: empty where the list is refused or the app is not listed."""
+    entries = listing(words, len(flash))
+    if entries is None or subtype not in entries:
+        return b""
+    start, end = entries[subtype]
+    return flash[start:end]
+
+
+def word(data, at):
+    return int.from_bytes(data[at:at + 4], "little")
+
+
+def checksum(datas):
+    total = 0xEF
+    for data in datas:
+        for byte in data:
+            total ^= byte
+    return total
+
+
+def check_image(image, chip):
+    """Number and place of the refusal, or 0 with whole length, entry, secure version and number of segments."""
+    if len(image) < 288:
+        return 20, 0
+    for wrong, refusal in ((image[0] != 0xE9, (21, 0)), (not 1 <= image[1] <= 16, (22, 1)),
+                           (image[12] + 256 * image[13] != chip, (23, 12)), (image[23] > 1, (24, 23))):
+        if wrong:
+            return refusal
+    at, datas = 24, []
+    for _ in range(image[1]):
+        size = word(image, at + 4)
+        if at + 8 > len(image) or size % 4 != 0 or at + 8 + size > len(image):
+            return 25, at
+        datas.append(image[at + 8:at + 8 + size])
+        at += 8 + size
+    if len(datas[0]) < 256 or word(image, 32) != 0xABCD5432:
+        return 26, 32
+    padded = at - at % 16 + 16
+    length = padded + 32 * image[23]
+    if length > len(image):
+        return 27, at
+    if image[padded - 1] != checksum(datas):
+        return 28, padded - 1
+    if word(image, 36) > 32:
+        return 29, 36
+    return 0, length, word(image, 4), word(image, 36), image[1]
+
+
+# ---- cases and their lines
+
+def filler(i):
+    return (i * 7 + i // 256 * 13 + i // 65536 * 29) % 256
+
+
+FILLED = bytes(filler(i) for i in range(BUFFER))
+
+
+class Cases:
+    def __init__(self):
+        self.stdin = bytearray()
+        self.stdout = []
+        self.buffer = bytearray(BUFFER)
+        self.met = set()
+
+    def add(self, kind, a=0, b=0, app=0, words=0, body=b""):
+        self.stdin += struct.pack("<BBHIQ112s", kind, app, words, a, b, body)
+
+    def print(self, line):
+        self.stdout.append(line)
+
+    def version(self, register):
+        self.add(1, register)
+        self.print(f"version {version(register)}")
+
+    def raised(self, register, v, wanted=None):
+        got = raised(register, v)
+        assert wanted in (None, got), (register, v)
+        self.add(2, register, v)
+        self.print(f"raise {got}")
+
+    def fill(self, start, end):
+        self.add(5, start, end)
+        self.buffer[start:end] = FILLED[start:end]
+
+    def place(self, content):
+        """Patches the front of the buffer where it is not the content yet."""
+        at = 0
+        while at < len(content):
+            if self.buffer[at] == content[at]:
+                at += 1
+                continue
+            piece = content[at:at + 112]
+            while piece[-1] == self.buffer[at + len(piece) - 1]:
+                piece = piece[:-1]
+            self.add(6, at, len(piece), body=piece)
+            self.buffer[at:at + len(piece)] = piece
+            at += len(piece)
+
+    def list(self, words, flash=FLASH, right=None):
+        words = repeated(words)
+        entries = listing(words, flash)
+        assert right in (None, entries is not None), (words, flash)
+        self.add(3, b=flash, words=len(words), body=struct.pack(f"<{len(words[:28])}I", *words[:28]))
+        if entries is None:
+            self.print("list refused 1")
+        else:
+            self.print(f"list {len(entries) - (0 in entries)} {'factory' if 0 in entries else 'no factory'}")
+
+    def part(self, words, slot, length, flash=BUFFER):
+        """The part of a slot, or of factory, and the length that it must have."""
+        words = repeated(words)
+        found = app_part(words, bytes(self.buffer[:flash]), 0 if slot is None else 16 + slot)
+        assert len(found) == length, (words, slot, flash)
+        self.add(4, slot or 0, flash, app=0 if slot is None else 1, words=len(words),
+                 body=struct.pack(f"<{len(words[:28])}I", *words[:28]))
+        self.print(f"part {len(found)} {found[:8].hex()}")
+
+    def image(self, content, wanted=None, length=None, chip=0):
+        """An image at the front of the buffer. What is wanted is the answer's number, or how the answer begins."""
+        self.place(bytes(content))
+        length = len(content) if length is None else length
+        answer = check_image(bytes(self.buffer[:length]), chip)
+        wanted = (wanted,) if isinstance(wanted, int) else wanted
+        assert wanted is None or answer[:len(wanted)] == wanted, (answer, wanted)
+        self.met.add(answer[0])
+        self.add(7, length, chip)
+        if answer[0] == 0:
+            self.print("image accepted " + " ".join(map(str, answer[1:])))
+        else:
+            self.print("image refused " + " ".join(map(str, answer)))
+
+
+def repeated(words):
+    """The list as the program makes it of the first 28 words."""
+    return [words[i if i < 28 else 24 + i % 3] for i in range(len(words))]
+
+
+# ---- the eFuse register
+
+def add_efuse(cases, rand):
+    for v, wanted in ((3, 0x0B), (4, 0x0F), (5, 0x1F), (32, LAST), (33, LAST)):
+        cases.raised(0x0B, v, wanted)
+    assert version(0x0B) == 3
+    cases.version(0x0B)
+    registers = [0, LAST, LAST >> 1, LAST - 1] + [1 << k for k in range(32)]
+    for register in registers + [rand.randrange(1 << 32) for _ in range(20)]:
+        cases.version(register)
+    for v in range(41):
+        cases.raised(0, v, LAST >> (32 - min(v, 32)))
+        cases.raised(rand.randrange(1 << 32), v)
+    for v in (0, 1, 31, 32, 33, LAST):
+        cases.raised(LAST, v, LAST)
+        cases.raised(0xAAAAAAAA, v)
+        cases.raised(LAST >> 1, v)
+
+
+# ---- partition lists
+
+def entry(subtype, unit, size=ALIGN):
+    return [subtype, unit * ALIGN, size]
+
+
+def slots_of(n, unit=2, factory=None, order=None):
+    """A right list of n slots from that unit of 65,536 bytes on; factory goes before the entry of that place."""
+    entries = [entry(16 + s, unit + s) for s in (order or range(n))]
+    if factory is not None:
+        entries.insert(factory, entry(0, unit - 1))
+    return sum(entries, [])
+
+
+def changed(words, at, value):
+    return words[:at] + [value] + words[at + 1:]
+
+
+def add_right_lists(cases):
+    for n in range(2, 9):
+        cases.list(slots_of(n), right=True)
+        for place in (0, n // 2, n):
+            cases.list(slots_of(n, factory=place), right=True)
+    for order in itertools.permutations(range(3)):
+        for place in range(4):
+            cases.list(slots_of(3, factory=place, order=order), right=True)
+    cases.list(slots_of(8, factory=4, order=(7, 3, 0, 5, 1, 6, 4, 2)), right=True)
+    cases.list(slots_of(2, unit=0), 2 * ALIGN, right=True)  # at the flash's start and up to its end
+    cases.list(slots_of(2, unit=0), 2 * ALIGN - 1, right=False)
+    cases.list(entry(16, 0, SECTOR) + entry(17, 1, SECTOR), ALIGN + SECTOR, right=True)
+    cases.list(entry(16, 0) + entry(17, 255), right=True)  # an end exactly at the flash's end, and one sector past it
+    cases.list(entry(16, 0) + entry(17, 255, ALIGN + SECTOR), right=False)
+    cases.list(entry(16, 0, 255 * ALIGN) + entry(17, 255), right=True)
+    cases.list(entry(17, 0, FLASH - ALIGN) + entry(16, 255, SECTOR), right=True)
+
+
+def add_wrong_lists(cases):
+    """Each rule broken alone."""
+    four = slots_of(4, factory=2)
+    for words in ([], [0], four[:-1], four[:-2], four + [20], four + [20, 7 * ALIGN]):
+        cases.list(words, right=False)
+    for subtype in (1, 15, 16 + 4, 16 + 5, 16 + 8, 32, LAST, LAST - 15, 0x10000010):
+        cases.list(changed(four, 0, subtype), right=False)
+        cases.list(changed(four, 6, subtype), right=subtype == 20)  # in place of factory
+        cases.list(four + entry(subtype, 9), right=subtype == 20)
+    cases.list(four + entry(0, 9), right=False)  # factory twice, slots twice, slots missing
+    for s in range(4):
+        cases.list(four + entry(16 + s, 9), right=False)
+        cases.list(slots_of(4, order=[k for k in range(4) if k != s]), right=s == 3)
+    for n in (0, 1, 9):
+        cases.list(slots_of(n), right=False)
+        cases.list(slots_of(n, factory=0), right=False)
+    spaced = sum([entry(subtype, 2 * unit) for unit, subtype in enumerate((17, 0, 16, 18))], [])
+    for at in range(0, len(spaced), 3):
+        for more in (0, 1, 2, 2048, SECTOR, ALIGN // 2, ALIGN - SECTOR, ALIGN):
+            cases.list(changed(spaced, at + 1, spaced[at + 1] + more), right=more in (0, ALIGN))
+        for size in (0, 1, 2048, SECTOR - 1, SECTOR, SECTOR + 1, ALIGN - 2048, 2 * ALIGN):
+            cases.list(changed(spaced, at + 2, size), right=size in (SECTOR, 2 * ALIGN))
+
+
+def add_overlaps(cases):
+    for i, j in itertools.permutations(range(3), 2):
+        apart = [entry(16 + k, 2 * k + 1) for k in range(3)]
+        apart[i] = entry(16 + i, 9, 2 * ALIGN)
+        for last in (entry(16 + j, 11), entry(16 + j, 8), entry(16 + j, 12, SECTOR)):
+            cases.list(sum([last if k == j else apart[k] for k in range(3)], []), right=True)
+        for last in (entry(16 + j, 8, ALIGN + SECTOR), entry(16 + j, 10), entry(16 + j, 10, SECTOR), entry(16 + j, 9, 2 * ALIGN),
+                     entry(16 + j, 8, 4 * ALIGN), entry(16 + j, 9, SECTOR), entry(16 + j, 0, FLASH)):
+            cases.list(sum([last if k == j else apart[k] for k in range(3)], []), right=False)
+    cases.list(slots_of(2, factory=0)[:2] + [ALIGN + SECTOR] + slots_of(2), right=False)
+
+
+def add_list_ends(cases):
+    four = slots_of(4, factory=0)
+    for flash in (FLASH, FLASH - 1, 6 * ALIGN):
+        cases.list(four, flash, right=True)
+    for flash in (0, 1, 6 * ALIGN - 1, 6 * ALIGN - SECTOR, FLASH + 1, 1 << 32, (1 << 32) + FLASH, 1 << 63, (1 << 64) - 1):
+        cases.list(four, flash, right=False)
+    for offset in (FLASH, LAST - ALIGN + 1, 1 << 31):  # 32-bit sums would wrap
+        for size in (SECTOR, ALIGN, LAST - SECTOR + 1, 1 << 31, (1 << 32) - offset, (1 << 32) - offset + ALIGN):
+            if size <= LAST:
+                cases.list(slots_of(2) + [18, offset, size], right=False)
+                cases.list([18, offset, size] + slots_of(2), FLASH, right=False)
+    for count in (27, 28, 29, 30, 31, 33, 150, 299, 300):  # nine entries are the most
+        cases.list(slots_of(8, factory=8) + [0] * (count - 27), right=count == 27)
+
+
+def add_random_lists(cases, rand):
+    edges = [0, 1, 15, 16, 17, 23, 24, SECTOR, SECTOR - 1, ALIGN, ALIGN + SECTOR, 2 * ALIGN, 3 * ALIGN, FLASH - ALIGN, FLASH, LAST]
+    for _ in range(150):
+        n = rand.randrange(2, 9)
+        units = rand.sample(range(256), n + 1)
+        entries = [entry(16 + s, units[s], SECTOR * rand.randrange(1, 20)) for s in range(n)]
+        entries += [entry(0, units[n])] if rand.randrange(2) else []
+        rand.shuffle(entries)
+        words = sum(entries, [])
+        for _ in range(rand.choice((0, 0, 1, 2))):
+            words = changed(words, rand.randrange(len(words)), rand.choice(edges))
+        cases.list(words, rand.choice((FLASH, FLASH, FLASH - SECTOR, 128 * ALIGN)))
+
+
+def add_parts(cases):
+    cases.fill(0, BUFFER)
+    mixed = slots_of(4, factory=2, order=(2, 0, 3, 1))
+    mixed[2] = SECTOR  # slot 2
+    for slot in (None, 0, 1, 2, 3):
+        cases.part(mixed, slot, SECTOR if slot == 2 else ALIGN)
+        cases.part(slots_of(8, factory=8), slot, ALIGN)
+    cases.part(entry(16, 0, 7 * ALIGN) + entry(17, 7, 9 * ALIGN), 1, 9 * ALIGN)
+    cases.part(slots_of(8), 7, ALIGN, 10 * ALIGN)
+    for slot in (4, 5, 8, 16, LAST, LAST - 15):  # unlisted
+        cases.part(mixed, slot, 0)
+    cases.part(slots_of(2), None, 0)
+    wrong = [[], mixed[:-1], mixed + mixed[:3], changed(mixed, 1, 2 * ALIGN + SECTOR), changed(mixed, 6, 1)]
+    for words, flash in [(words, BUFFER) for words in wrong] + [(mixed, 6 * ALIGN - 1), (mixed, 0)]:  # refused
+        for slot in (None, 0, 3):
+            cases.part(words, slot, 0, flash)
+
+
+# ---- app images
+
+def build(lengths, magic=0xE9, count=None, entry_address=0x40080400, chip=0, flag=0, descriptor=0xABCD5432, secure=1, wrong=0,
+          puts=(), cut=0, more=0):
+    """An image with segments of these lengths, whose data is what a fill leaves. The puts are laid over it last."""
+    e = 24 + sum(8 + length for length in lengths)
+    padded = e - e % 16 + 16
+    image = bytearray(FILLED[:padded + 32 * flag + more])
+    struct.pack_into("<BB", image, 0, magic, len(lengths) if count is None else count)
+    struct.pack_into("<I", image, 4, entry_address)
+    struct.pack_into("<H", image, 12, chip)
+    image[23] = flag
+    struct.pack_into("<II", image, 32, descriptor, secure)
+    at, datas = 24, []
+    for number, length in enumerate(lengths):
+        struct.pack_into("<II", image, at, 0x3F400020 + 0x10000 * number, length)
+        datas.append(image[at + 8:at + 8 + length])
+        at += 8 + length
+    image[padded - 1] = checksum(datas) ^ wrong
+    for at, data in puts:
+        image[at:at + len(data)] = data
+    return image[:len(image) - cut]
+
+
+def le(number, size=4):
+    return number.to_bytes(size, "little")
+
+
+def add_examples(cases):
+    """The examples of document 01."""
+    small = build([256])
+    small[40:288] = bytes(248)
+    small[303] = 0xEE
+    cases.image(small, (0, 304, 0x40080400, 1, 1))
+    flagged = small[:23] + b"\x01" + small[24:] + bytes(32)
+    cases.image(flagged, (0, 336, 0x40080400, 1, 1))
+    cases.image(flagged[:335], (27, 288))
+    cases.image(small[:303], (27, 288))
+    cases.image(build([252, 8]), (26, 32))
+    cases.image(build([254, 8]), (25, 24))
+    cases.image(build([256, 8]), 0)
+
+
+def add_header_faults(cases):
+    for length in (0, 1, 23, 24, 39, 287):
+        cases.image(build([256]), (20, 0), length)
+    cases.image(build([256])[:288], (27, 288))
+    for magic in (0, 0xE8, 0xEA, 0xFF):
+        cases.image(build([256], magic=magic), (21, 0))
+    for count in (0, 17, 18, 128, 255):
+        cases.image(build([256], count=count), (22, 1))
+    cases.image(build([256] + [4] * 16), (22, 1))
+    for chip, settings in ((1, 0), (0, 1), (0x0100, 0), (0, 0x0100), (0x0102, 0x0201), (0xFFFF, 0xFFFE)):
+        cases.image(build([256], chip=chip), (23, 12), chip=settings)
+        cases.image(build([256], chip=chip), 0, chip=chip)
+    for flag in (2, 3, 0x80, 0xFF):
+        cases.image(build([256], puts=[(23, le(flag, 1))], more=64), (24, 23))
+
+
+def add_segment_faults(cases):
+    sixteen = [256] + [4] * 15
+    last = 24 + 264 + 14 * 12  # the header of the sixteenth segment
+    cases.image(build(sixteen), (0, 480))
+    sizes = (1, 2, 3, 254, LAST, LAST - 3, (1 << 32) - 32, (1 << 32) - 28, (1 << 32) - 24, 1 << 31, BUFFER)
+    for size in sizes:
+        cases.image(build([256], puts=[(28, le(size))]), (25, 24))
+        cases.image(build(sixteen, puts=[(last + 4, le(size))]), (25, last))
+    end = len(build(sixteen))
+    cases.image(build(sixteen, puts=[(last + 4, le(end - last - 8))]), (27, end))  # data up to the end, and one word past it
+    cases.image(build(sixteen, puts=[(last + 4, le(end - last - 4))]), (25, last))
+    cases.image(build([256], puts=[(28, le(272))]), (27, 304))
+    cases.image(build([256], puts=[(28, le(276))]), (25, 24))
+    for kept in (0, 1, 7, 8, 11):  # the sixteenth header or its data is cut
+        cases.image(build(sixteen), (25, last), last + kept)
+    cases.image(build(sixteen), (27, last + 12), last + 12)
+    for first in range(0, 15, 5):  # the first bad segment is the one named
+        at = 24 if first == 0 else 24 + 264 + 12 * (first - 1)
+        cases.image(build(sixteen, puts=[(at + 4, le(5)), (last + 4, le(6))]), (25, at))
+
+
+def add_descriptor_faults(cases):
+    for length in (0, 4, 128, 252):
+        cases.image(build([length, 300]), (26, 32))
+    for place in range(4):
+        cases.image(build([256], puts=[(32 + place, le(9, 1))]), (26, 32))
+    for secure in (0, 1, 31, 32):
+        cases.image(build([256], secure=secure), (0, 304, 0x40080400, secure, 1))
+    for secure in (33, 0x0100, 0x01000000, LAST):
+        cases.image(build([256], secure=secure), (29, 36))
+
+
+def add_end_faults(cases):
+    for length in (256, 260, 264, 268, 272):  # e is a multiple of 16 in the first and the last
+        e = 32 + length
+        padded = e - e % 16 + 16
+        assert padded == {288: 304, 292: 304, 296: 304, 300: 304, 304: 320}[e]
+        cases.image(build([length]), (0, padded))
+        cases.image(build([length], more=5), (0, padded))
+        cases.image(build([length], cut=1), (27, e))
+        cases.image(build([length])[:e], (27, e))
+        cases.image(build([length], flag=1), (0, padded + 32))
+        cases.image(build([length], flag=1, cut=1), (27, e))
+        cases.image(build([length], flag=1, cut=32), (27, e))
+        cases.image(build([length], wrong=1), (28, padded - 1))
+    for k in range(8):
+        cases.image(build([256], wrong=1 << k), (28, 303))
+    for place in (41, 287):  # data counts; load addresses, padding, digest and what follows do not
+        cases.image(build([256], puts=[(place, le(FILLED[place] ^ 0x10, 1))]), (28, 303))
+    for place in (24, 27, 288, 302, 304, 335, 336, 340):
+        cases.image(build([256], flag=1, more=8, puts=[(place, le(FILLED[place] ^ 0x10, 1))]), (0, 336))
+
+
+FAULTS = {
+    21: {"magic": 0x9E},
+    22: {"count": 17},
+    23: {"chip": 0x0900},
+    24: {"puts": [(23, le(2, 1))]},
+    25: {"puts": [(28, le(262))]},
+    26: {"descriptor": 0xABCD5433},
+    27: {"cut": 1},
+    28: {"wrong": 0x40},
+    29: {"secure": 33},
+}
+
+
+def add_pairs(cases):
+    """Two faults at once: the lower number is given. After a bad segment there is no end, so 25 goes with neither 27 nor 28."""
+    for number, fault in FAULTS.items():
+        cases.image(build([260, 4], flag=1, **fault), number)
+        cases.image(build([200], flag=1, **fault), 20)
+    for lower, higher in itertools.combinations(FAULTS, 2):
+        if (lower, higher) in ((25, 27), (25, 28)):
+            continue
+        fault = {**FAULTS[lower], **FAULTS[higher]}
+        fault["puts"] = FAULTS[lower].get("puts", []) + FAULTS[higher].get("puts", [])
+        cases.image(build([260, 4], flag=1, **fault), lower)
+    cases.image(build([256], count=0, secure=33), 22)
+    cases.image(build([252], wrong=1), 26)
+
+
+def add_large_images(cases):
+    cases.fill(0, BUFFER)
+    # the segments of source document 002, with other data
+    lengths = [0x13CE0, 0, 0, 0x28E0, 0, 0x400, 0x9600, 0x62E4C, 0x6CEC, 0, 4, 0, 0]
+    assert 24 + sum(8 + length for length in lengths) == 0x89B7C
+    cases.image(build(lengths, flag=1), (0, 564128, 0x40080400, 1, 13))
+    cases.image(build(lengths, flag=1, cut=1), (27, 0x89B7C))
+    cases.image(build(lengths, flag=1, wrong=0x80), (28, 0x89B7F))
+    cases.image(build(lengths), (0, 564096))
+    cases.image(build(lengths, puts=[(0x89B78, le(2))]), (25, 0x89B74))
+    whole = BUFFER - 24 - 8 - 4  # up to the buffer's last byte
+    cases.image(build([whole]), (0, BUFFER))
+    cases.image(build([whole], wrong=2), (28, BUFFER - 1))
+    cases.image(build([whole]), (27, BUFFER - 4), BUFFER - 1)
+    cases.image(build([whole], puts=[(28, le(whole + 4))]), (27, BUFFER))
+    cases.image(build([whole], puts=[(28, le(whole + 8))]), (25, 24))
+    cases.fill(0, BUFFER)
+
+
+def add_random_images(cases, rand):
+    places = [0, 1, 4, 7, 12, 13, 23, 28, 29, 32, 35, 36, 37]
+    for _ in range(60):
+        lengths = [256 + 4 * rand.randrange(8)] + [4 * rand.randrange(12) for _ in range(rand.choice((0, 1, 1, 2, 3)))]
+        more = rand.randrange(40)
+        image = build(lengths, flag=rand.randrange(2), secure=rand.choice((0, 7, 32)), entry_address=rand.getrandbits(32), more=more)
+        cases.image(image, 0)
+        for _ in range(3):  # a byte of it changed, or its end cut
+            wrong = bytearray(image)
+            at = rand.choice(places + [len(image) - more - 1, rand.randrange(len(image))])
+            wrong[at] = rand.randrange(256)
+            cases.image(wrong, length=len(image) - rand.choice((0, 0, 0, 1, 40)))
+    for _ in range(10):
+        lengths = [256] + [4 * rand.randrange(3) for _ in range(rand.randrange(4, 16))]
+        cases.image(build(lengths, flag=rand.randrange(2)), 0)
+
+
+def all_cases():
+    rand = random.Random(20261116)
+    cases = Cases()
+    add_efuse(cases, rand)
+    for add in (add_right_lists, add_wrong_lists, add_overlaps, add_list_ends):
+        add(cases)
+    add_random_lists(cases, rand)
+    add_parts(cases)
+    for add in (add_examples, add_header_faults, add_segment_faults, add_descriptor_faults, add_end_faults, add_pairs):
+        add(cases)
+    add_large_images(cases)
+    add_random_images(cases, rand)
+    assert cases.met == {0, *range(20, 30)}
+    assert len(cases.stdin) == 128 * (len(cases.stdin) // 128) < 300_000
+    return cases
+
+
+def main():
+    cases = all_cases()
+    made = {"stdin": bytes(cases.stdin), "stdout": ("\n".join(cases.stdout) + "\n").encode()}
+    for name, content in made.items():
+        if "--check" not in sys.argv:
+            (HERE / name).write_bytes(content)
+        elif (HERE / name).read_bytes() != content:
+            sys.exit(f"layer_vectors/{name} is not what tests/vectors/layers.py makes")
+    print(f"layer vectors: {len(cases.stdout)} answers to {len(cases.stdin) // 128} cases")
+
+
+if __name__ == "__main__":
+    main()
