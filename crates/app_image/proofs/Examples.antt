@@ -8,7 +8,7 @@ use Rattle.app_image.specs.Layout.{badSegment, segmentsFrom, segments, s
 use Rattle.app_image.specs.Check.{lengthTest, headerTests, segmentTest, endTests, check, view}
 
 -- an image of one segment of 256 bytes, its descriptor zero but for its word and version 1, with that digest flag and that data length
-image : ℕ → ℕ → List ℕ
+pub image : ℕ → ℕ → List ℕ
 image flag size =
     0xE9 ∷ 1 ∷ replicate 21 0 ++ flag ∷ []
     ++ replicate 4 0 ++ size ∷ 1 ∷ 0 ∷ 0 ∷ []
@@ -16,18 +16,18 @@ image flag size =
     ++ replicate 15 0 ++ 0xEE ∷ []
     ++ replicate 32 0
 
-one-segment-ends : stop (segments (image 0 0)) ≡ 288
+pub one-segment-ends : stop (segments (image 0 0)) ≡ 288
 unfolding image segmentsFrom badSegment
 one-segment-ends = refl
 
-one-segment-checksum : checksum (image 0 0) (segments (image 0 0)) ≡ 0xEE
+pub one-segment-checksum : checksum (image 0 0) (segments (image 0 0)) ≡ 0xEE
 unfolding image segmentsFrom badSegment xored
 one-segment-checksum = refl
 
-one-segment-layout : (checksumPlace 288 ≡ 303) × (wholeLength 0 288 ≡ 304) × (wholeLength 1 288 ≡ 336)
+pub one-segment-layout : (checksumPlace 288 ≡ 303) × (wholeLength 0 288 ≡ 304) × (wholeLength 1 288 ≡ 336)
 one-segment-layout = (refl, refl, refl)
 
-one-segment-accepted : view (check (image 0 0) 0) ≡ record { number = 0; values = 304 ∷ 0 ∷ 1 ∷ 1 ∷ [] }
+pub one-segment-accepted : view (check (image 0 0) 0) ≡ record { number = 0; values = 304 ∷ 0 ∷ 1 ∷ 1 ∷ [] }
 unfolding image check lengthTest headerTests segmentTest endTests segmentsFrom badSegment xored
 one-segment-accepted = refl
 
@@ -37,5 +37,5 @@ unfolding image check lengthTest headerTests segmentTest endTests segmentsFrom b
 odd-length-refused = refl
 
 -- the segments of source document 002 end at 0x89B7C
-thirteen-segments-layout : (checksumPlace 0x89B7C ≡ 0x89B7F) × (wholeLength 1 0x89B7C ≡ 564128)
+pub thirteen-segments-layout : (checksumPlace 0x89B7C ≡ 0x89B7F) × (wholeLength 1 0x89B7C ≡ 564128)
 thirteen-segments-layout = (refl, refl)

@@ -9,7 +9,7 @@ version-of-0x0B : version width 0x0B ≡ 3
 unfolding onesIn
 version-of-0x0B = refl
 
-raised-0x0B : map (raised width 0x0B) (3 ∷ 4 ∷ 5 ∷ []) ≡ 0x0B ∷ 0x0F ∷ 0x1F ∷ []
+pub raised-0x0B : map (raised width 0x0B) (3 ∷ 4 ∷ 5 ∷ []) ≡ 0x0B ∷ 0x0F ∷ 0x1F ∷ []
 unfolding raised setLowest onesIn
 raised-0x0B = refl
 

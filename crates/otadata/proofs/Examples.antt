@@ -14,7 +14,7 @@ check-word-of-2 : checkWord 2 ≡ 0x55F63774
 unfolding checkWord feeds shift
 check-word-of-2 = refl
 
-first-record :
+pub first-record :
     made 1 (replicate 20 255) 0xFFFFFFFF
     ≡ record { number = 0; rec = 0x01 ∷ 0x00 ∷ 0x00 ∷ 0x00 ∷ [] ++ replicate 24 0xFF ++ 0x9A ∷ 0x98 ∷ 0x43 ∷ 0x47 ∷ [] }
 unfolding made recordOf good checkWord feeds shift

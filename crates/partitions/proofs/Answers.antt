@@ -36,6 +36,13 @@ module _ (list : List ℕ) (capacity : ℕ) (t : Bool) (tested : t ≡ right lis
 
 -- ---- the part of an app
 
+-- the bytes from o to e lie within the flash and are the app's part of it
+pub record IsPart (list : List ℕ) (flash : Part) (app : App) (o e : ℕ) : Type 0 where
+  pub within : e ≤ length (flash .content)
+  pub same :
+      _≡_ {A = Part} (record { place = (flash .place .0, o + flash .place .1); content = take (e - o) (drop o (flash .content)) })
+      (appPart list flash app)
+
 module _ (list : List ℕ) (flash : Part) (app : App) (t : Bool) (tested : t ≡ right list (length (flash .content))) where
   pub of-no-list : not t ≡ true → _≡_ {A = Part} (record { place = flash .place; content = [] }) (appPart list flash app)
   unfolding appPart
@@ -46,14 +53,12 @@ module _ (list : List ℕ) (flash : Part) (app : App) (t : Bool) (tested : t ≡
     unfolding appPart
     of-no-entry l = simp (← tested, not-false t y, ← named, ← found, le-ltb i (entryCount list) l)
 
-    module _ (l : i < entryCount list) (o e : ℕ) (of-offset : o ≡ entryAt list i .offset) (of-end : e ≡ endOf (entryAt list i)) where
-      pub ends-within : e ≤ length (flash .content)
-      ends-within = omega (arith, known-right list (length (flash .content)) t tested y .entries i l .ends)
-
-      pub of-entry :
-          _≡_ {A = Part} (record { place = (flash .place .0, o + flash .place .1); content = take (e - o) (drop o (flash .content)) })
-          (appPart list flash app)
-      unfolding appPart
-      of-entry =
-          let size : entryAt list i .size ≡ e - o = omega arith in
-          simp (← tested, not-false t y, ← named, ← found, lt-ltb i (entryCount list) l, ← of-offset, size, add-comm o (flash .place .1))
+    -- the entry's part, from its offset o to its end e
+    pub of-entry : i < entryCount list → (o e : ℕ) → o ≡ entryAt list i .offset → e ≡ endOf (entryAt list i) → IsPart list flash app o e
+    unfolding appPart
+    of-entry l o e of-offset of-end =
+        let size : entryAt list i .size ≡ e - o = omega arith in
+        record {
+          within = omega (arith, known-right list (length (flash .content)) t tested y .entries i l .ends);
+          same = simp (← tested, not-false t y, ← named, ← found, lt-ltb i (entryCount list) l, ← of-offset, size, add-comm o (flash .place .1));
+        }

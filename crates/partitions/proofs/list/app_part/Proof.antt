@@ -4,7 +4,7 @@ use native.Mathlib.Omega.{arith}
 use denote.Ref.{now}
 use borrow.Author.Needs.{needs}
 use Rattle.otadata.specs.Sectors.{part}
-use Rattle.partitions.proofs.Answers.{of-no-list, of-no-entry, ends-within, of-entry}
+use Rattle.partitions.proofs.Answers.{of-no-list, of-no-entry, IsPart, of-entry}
 use Rattle.partitions.proofs.list.app_part.Statement.{statement}
 use Rattle.partitions.proofs.list.app_part.Tie as tie
 
@@ -51,29 +51,24 @@ sub-result c = omega arith
 part-result-start : tie.Need-part-result-start
 part-result-start c = omega arith
 
-part-result-end : tie.Need-part-result-end
-part-result-end c =
-    let end = c in
-    let offset = end .before in
-    let found = offset .before .before in
-    let named = found .before in
-    let call = named .before .before .right in
-    let a = named .before .before .before .before .before .args in
-    ends-within (now (a .list)) (part (a .flash)) (a .app) (call .result) (call .ensures) (named .before .if1 .left)
-    (named .subtype-of .result) (named .subtype-of .ensures) (found .entry-of .result) (found .entry-of .ensures) (omega arith)
-    (offset .offset-at .result) (end .end-at .result) (offset .offset-at .ensures) (end .end-at .ensures)
-
-returns-3 : tie.Need-returns-3
-returns-3 c =
-    let end = c .before in
-    let offset = end .before in
+is-part :
+    (c : tie.After-end-at) → (let a = c .before .before .before .before .before .before .before .before .before .args in
+    IsPart (now (a .list)) (part (a .flash)) (a .app) (c .before .offset-at .result) (c .end-at .result))
+is-part c =
+    let offset = c .before in
     let found = offset .before .before in
     let named = found .before in
     let call = named .before .before .right in
     let a = named .before .before .before .before .before .args in
     of-entry (now (a .list)) (part (a .flash)) (a .app) (call .result) (call .ensures) (named .before .if1 .left)
     (named .subtype-of .result) (named .subtype-of .ensures) (found .entry-of .result) (found .entry-of .ensures) (omega arith)
-    (offset .offset-at .result) (end .end-at .result) (offset .offset-at .ensures) (end .end-at .ensures)
+    (offset .offset-at .result) (c .end-at .result) (offset .offset-at .ensures) (c .end-at .ensures)
+
+part-result-end : tie.Need-part-result-end
+part-result-end c = is-part c .within
+
+returns-3 : tie.Need-returns-3
+returns-3 c = is-part (c .before) .same
 
 pub app-part-spec : {M : Type 1} → statement M
 app-part-spec =
