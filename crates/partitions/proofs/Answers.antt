@@ -13,7 +13,8 @@ use Rattle.otadata.specs.Sectors.{Part}
 use Rattle.partitions.specs.declared.App.{App}
 use Rattle.partitions.specs.declared.Checked.the-variants.{Refused, Accepted}
 use Rattle.partitions.specs.PartitionList.{entryCount, entryAt, endOf, timesListed, factorySubtype, maxSlots, right, checked, subtypeOf, entryOf, appPart}
-use Rattle.partitions.proofs.ListRules.{IsRight, is-right}
+use Rattle.partitions.specs.RightList.{RightList}
+use Rattle.partitions.proofs.RightMeans.{right-is}
 
 -- ---- the test of a list
 
@@ -23,11 +24,11 @@ module _ (list : List ℕ) (capacity : ℕ) (t : Bool) (tested : t ≡ right lis
   refused n = simp (← tested, not-true t n)
 
   module _ (y : not t ≡ false) where
-    pub known-right : IsRight list capacity
-    known-right = is-right list capacity (sym tested ∙ not-false t y)
+    pub known-right : RightList list capacity
+    known-right = right-is list capacity (sym tested ∙ not-false t y)
 
     pub few-entries : entryCount list ≤ maxSlots + 1
-    few-entries = omega (arith, known-right .eight, known-right .factory)
+    few-entries = omega (arith, known-right .most, known-right .factory)
 
     module _ (f : ℕ) (counted : f ≡ timesListed list factorySubtype) where
       pub accepted : Accepted (record { slots = entryCount list - f; factory = eqb f 1 }) ≡ checked list capacity

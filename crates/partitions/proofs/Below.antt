@@ -37,6 +37,10 @@ module _ (p : ℕ → Bool) where
       (λ (below : i < k). every-suc k ∙ simp (every-fails k i below f))
       (eq-or-lt-of-le (omega arith))
 
+  pub every-all : (k : ℕ) → ((i : ℕ) → i < k → p i ≡ true) → everyBelow k p ≡ true
+  every-all zero all = every-none
+  every-all (suc k) all = every-suc k ∙ simp (every-all k (λ (i : ℕ) (l : i < k). all i (omega arith)), all k (omega arith))
+
   -- the loop's end
   pub every-end : (k i : ℕ) → everyBelow i p ≡ true → i ≡ k → true ≡ everyBelow k p
   every-end k i e same = sym (ap (λ (m : ℕ). everyBelow m p) (sym same) ∙ e)

@@ -5,3 +5,4 @@ pub mod EntryRules
 pub mod Examples
 pub mod ListRules
 pub mod Listed
+pub mod RightMeans

@@ -1,1 +1,2 @@
 pub mod PartitionList
+pub mod RightList
