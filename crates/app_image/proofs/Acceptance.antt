@@ -9,7 +9,7 @@ use native.Mathlib.Omega.{arith}
 use lib.Dec.{eqb}
 use lib.ListN.{length}
 use borrow.Author.Tests.{ltb-false, not-false}
-use Rattle.otadata.proofs.Booleans.{true-or-false}
+use Rattle.otadata.proofs.Booleans.{true-or-false, true-is-not-false}
 use Rattle.app_image.specs.declared.Tested.{Tested}
 use Rattle.app_image.specs.declared.Tested.the-variants.{Passed, Failed}
 use Rattle.app_image.specs.declared.Facts.{Facts}
@@ -38,13 +38,10 @@ unfolding headerTests
 header-counted s chip e =
     ⊎-elim (λ (y : countRight (segmentCount s) ≡ true). y)
     (λ (n : countRight (segmentCount s) ≡ false).
-    ⊎-elim (λ (m : eqb (magic s) 0xE9 ≡ true). absurd (not-both (simp (m, n) at (ap isPassed e))))
-    (λ (m : eqb (magic s) 0xE9 ≡ false). absurd (not-both (simp (m, n) at (ap isPassed e))))
+    ⊎-elim (λ (m : eqb (magic s) 0xE9 ≡ true). absurd (true-is-not-false false (simp (m, n) at (ap isPassed e)) refl))
+    (λ (m : eqb (magic s) 0xE9 ≡ false). absurd (true-is-not-false false (simp (m, n) at (ap isPassed e)) refl))
     (true-or-false (eqb (magic s) 0xE9)))
     (true-or-false (countRight (segmentCount s)))
-  where
-    not-both : false ≡ true → ⊥
-    not-both f = let z : _≡_ {A = ℕ} 0 1 = cc in omega arith
 
 pub record IsAccepted (s : List ℕ) (chip : ℕ) (facts : Facts) : Type 0 where
   pub header : headerTests s chip ≡ Passed

@@ -9,7 +9,7 @@ use native.Mathlib.Omega.{arith}
 use lib.Dec.{ltb, eqb}
 use lib.ListN.{length, take, drop}
 use borrow.Author.Tests.{lt-ltb, le-ltb, eq-eqb, ne-eqb, ltb-false}
-use Rattle.otadata.proofs.Booleans.{true-or-false}
+use Rattle.otadata.proofs.Booleans.{true-or-false, true-is-not-false, neither}
 use Rattle.otadata.proofs.Numbers.{same-ltb}
 use Rattle.app_image.specs.declared.Walked.{Walked}
 use Rattle.app_image.specs.declared.Walked.the-variants.{Bad, Ends}
@@ -39,11 +39,30 @@ pub good-ends : (s : List ℕ) (at : ℕ) → badSegment s at ≡ false → data
 unfolding badSegment
 good-ends s at e =
     let tests = ltb (length s) (dataStart at) || not (eqb (dataLength s at % 4) 0) in
-    ltb-false _ _ (last-false tests (ltb (length s) (dataEnd s at)) e)
-  where
-    last-false : (a b : Bool) → (a || b) ≡ false → b ≡ false
-    last-false true b f = absurd (let z : _≡_ {A = ℕ} 0 1 = cc in omega arith)
-    last-false false b f = f
+    ltb-false _ _ (neither tests (ltb (length s) (dataEnd s at)) e .1)
+
+-- of segments that are all good the first is good, and so are the rest, which stop where all do
+module _ (s : List ℕ) (k at : ℕ) (good : anyBad (segmentsFrom s (suc k) at) ≡ false) where
+  pub first-good : badSegment s at ≡ false
+  unfolding segmentsFrom
+  first-good =
+      ⊎-elim (λ (b : badSegment s at ≡ true). absurd (true-is-not-false true refl (simp b at good)))
+      (λ (g : badSegment s at ≡ false). g) (true-or-false (badSegment s at))
+
+  pub rest-good : anyBad (segmentsFrom s k (dataEnd s at)) ≡ false
+  unfolding segmentsFrom
+  rest-good = simp first-good at good
+
+  pub rest-stops : stop (segmentsFrom s (suc k) at) ≡ stop (segmentsFrom s k (dataEnd s at))
+  unfolding segmentsFrom
+  rest-stops = simp first-good
+
+-- so they end within the image
+pub end-within : (s : List ℕ) (k at : ℕ) → at ≤ length s → anyBad (segmentsFrom s k at) ≡ false → stop (segmentsFrom s k at) ≤ length s
+unfolding segmentsFrom
+end-within s zero at h good = h
+end-within s (suc k) at h good =
+    rw (rest-stops s k at good) (end-within s k (dataEnd s at) (good-ends s at (first-good s k at good)) (rest-good s k at good))
 
 -- ---- the walk, where sum is the checksum so far
 
@@ -92,26 +111,19 @@ module _ (s : List ℕ) (n i at sum : ℕ) (same : walkedFrom s sum (segmentsFro
 
 -- ---- what a walk has found
 
+by-bad : (b : Bool) (p sum at : ℕ) → cond b (Bad p) (Ends p sum) ≡ Bad at → (b ≡ true) × (p ≡ at)
+by-bad true p sum at f = (refl, cc)
+by-bad false p sum at f = absurd (let z : _≡_ {A = ℕ} 0 1 = cc in omega arith)
+
+by-end : (b : Bool) (p sum e sum′ : ℕ) → cond b (Bad p) (Ends p sum) ≡ Ends e sum′ → (b ≡ false) × (p ≡ e) × (sum ≡ sum′)
+by-end true p sum e sum′ f = absurd (let z : _≡_ {A = ℕ} 0 1 = cc in omega arith)
+by-end false p sum e sum′ f = (refl, (cc), (cc))
+
 module _ (s : List ℕ) (segs : Segments) where
   pub found-bad : (at : ℕ) → walked s segs ≡ Bad at → (anyBad segs ≡ true) × (stop segs ≡ at)
   unfolding walked
-  found-bad at f =
-      ⊎-elim (λ (y : anyBad segs ≡ true). (y, let g : Bad (stop segs) ≡ Bad at = simp y at f in cc))
-      (λ (n : anyBad segs ≡ false). let g : Ends (stop segs) (checksum s segs) ≡ Bad at = simp n at f in absurd (let z : _≡_ {A = ℕ} 0 1 = cc in omega arith))
-      (true-or-false (anyBad segs))
+  found-bad at f = by-bad (anyBad segs) (stop segs) (checksum s segs) at f
 
   pub found-end : (e sum : ℕ) → walked s segs ≡ Ends e sum → (anyBad segs ≡ false) × (stop segs ≡ e) × (checksum s segs ≡ sum)
   unfolding walked
-  found-end e sum f =
-      ⊎-elim (λ (y : anyBad segs ≡ true). let g : Bad (stop segs) ≡ Ends e sum = simp y at f in absurd (let z : _≡_ {A = ℕ} 0 1 = cc in omega arith))
-      (λ (n : anyBad segs ≡ false). (n, (let g : Ends (stop segs) (checksum s segs) ≡ Ends e sum = simp n at f in cc), (let g : Ends (stop segs) (checksum s segs) ≡ Ends e sum = simp n at f in cc)))
-      (true-or-false (anyBad segs))
-
--- segments none of which is bad end within the image
-pub end-within : (s : List ℕ) (k at : ℕ) → at ≤ length s → anyBad (segmentsFrom s k at) ≡ false → stop (segmentsFrom s k at) ≤ length s
-unfolding segmentsFrom
-end-within s zero at h f = h
-end-within s (suc k) at h f =
-    ⊎-elim (λ (b : badSegment s at ≡ true). absurd (let g : true ≡ false = simp b at f in let z : _≡_ {A = ℕ} 0 1 = cc in omega arith))
-    (λ (g : badSegment s at ≡ false). simp g (end-within s k (dataEnd s at) (good-ends s at g) (simp g at f)))
-    (true-or-false (badSegment s at))
+  found-end e sum f = by-end (anyBad segs) (stop segs) (checksum s segs) e sum f

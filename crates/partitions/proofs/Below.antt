@@ -8,12 +8,9 @@ use native.Mathlib.Nat.{eq-or-lt-of-le, add-zero, sub-zero}
 use native.Mathlib.Numerals.{add-one}
 use native.Mathlib.Omega.{arith}
 use borrow.Author.Tests.{not-true, not-false}
-use Rattle.otadata.proofs.Booleans.{true-or-false}
+use Rattle.otadata.proofs.Booleans.{true-or-false, true-is-not-false}
 use Rattle.otadata.proofs.Numbers.{le-or-lt}
 use Rattle.partitions.specs.PartitionList.{everyBelow, countBelow, firstFrom}
-
-true-is-not-false : (b : Bool) → b ≡ true → b ≡ false → ⊥
-true-is-not-false b t f = let z : _≡_ {A = ℕ} 0 1 = cc in omega arith
 
 -- ---- every number below k
 

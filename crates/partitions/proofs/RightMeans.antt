@@ -9,7 +9,7 @@ use native.Mathlib.Omega.{arith}
 use lib.Dec.{eqb, leb, ltb}
 use lib.ListN.{length}
 use borrow.Author.Tests.{eq-eqb, ne-eqb, lt-ltb, le-ltb, le-leb, eqb-true, eqb-false, leb-true, ltb-true, not-true}
-use Rattle.otadata.proofs.Booleans.{both, either}
+use Rattle.otadata.proofs.Booleans.{both, either, true-is-not-false}
 use Rattle.otadata.proofs.Numbers.{le-or-lt}
 use Rattle.partitions.specs.PartitionList.{Entry, entryCount, entryAt, endOf, timesListed, factorySubtype, slotSubtype, slotCount, maxSlots, maxFlash}
 use Rattle.partitions.specs.PartitionList.{known, entryRight, overlap, slotOnce, rightAt, apart, noOverlapBefore}
@@ -70,8 +70,7 @@ module _ (a b : Entry) where
   apart-means : not (overlap a b) ≡ true → (x : ℕ) → holds a x → holds b x → ⊥
   apart-means n x ha hb =
       let both-hold : overlap a b ≡ true = simp (lt-ltb (a .offset) (endOf b) (omega arith), lt-ltb (b .offset) (endOf a) (omega arith)) in
-      let z : _≡_ {A = ℕ} 0 1 = cc (not-true (overlap a b) n) in
-      omega arith
+      true-is-not-false (overlap a b) both-hold (not-true (overlap a b) n)
 
   -- of entries that hold a byte, the later offset is in both where they overlap
   apart-from : 0 < a .size → 0 < b .size → ((x : ℕ) → holds a x → holds b x → ⊥) → not (overlap a b) ≡ true

@@ -1,9 +1,9 @@
 // The list as a whole: whether it keeps document 01's rules, what it holds, and the part of the flash that belongs to an app.
 ghost use mathlib.Core.Path.{_≡_};
-ghost use Prim.Native.Nat.{_+_, _*_, _≤_};
+ghost use Prim.Native.Nat.{_+_, _*_, _^_, _≤_, _<_};
 ghost use lib.ListN.{length};
 ghost use Rattle.otadata.specs.Sectors.{part};
-ghost use Rattle.partitions.specs.PartitionList.{maxSlots, slotsRight, eachSlotOnce, eachEntryRight, noOverlapBefore, noTwoOverlap};
+ghost use Rattle.partitions.specs.PartitionList.{slotsRight, eachSlotOnce, eachEntryRight, noOverlapBefore, noTwoOverlap};
 ghost use Rattle.partitions.specs.PartitionList.{right as PartitionList·right, checked, subtypeOf, appPart};
 use crate::App;
 use crate::BAD_LIST;
@@ -77,7 +77,7 @@ fn slots_right(list: &[u32], n: usize, capacity: usize) -> bool
 
 // Whether each of n slots is listed exactly once.
 fn each_slot_once(list: &[u32], n: usize) -> bool
-    requires { ⌜ n ≤ maxSlots ⌝ }
+    requires { ⌜ n < 2 ^ 32 ⌝ }
     ensures { λ r. ⌜ r ≡ eachSlotOnce (now (list .entry)) n ⌝ }
 {
     for s in 0..n {
