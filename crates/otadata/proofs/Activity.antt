@@ -48,6 +48,21 @@ module _ (rs : List Reading) (size : length rs ≡ 2) (d : Reading) where
       first-higher l =
           sym (by-readings ∙ simp (← tested0, ← tested1, not-false t0 y0, not-false t1 y1, ← read0, ← read1, le-ltb _ _ l))
 
+-- there are two sectors
+by-usable : (first second higher : Bool) (k : ℕ) → ofUsable first second higher ≡ Sector k → k < 2
+by-usable false false higher k e = absurd (let z : _≡_ {A = ℕ} 0 1 = cc in omega arith)
+by-usable true false higher k e = let z : 0 ≡ k = cc in omega arith
+by-usable false true higher k e = let z : 1 ≡ k = cc in omega arith
+by-usable true true true k e = let z : 1 ≡ k = cc in omega arith
+by-usable true true false k e = let z : 0 ≡ k = cc in omega arith
+
+pub active-below-two : (rs : List Reading) (k : ℕ) → active rs ≡ Sector k → k < 2
+unfolding active
+active-below-two rs k e =
+    let first = getD rs 0 noReading in
+    let second = getD rs 1 noReading in
+    by-usable (usable first) (usable second) (ltb (sequenceIn (first .verdict)) (sequenceIn (second .verdict))) k e
+
 -- ---- the active record as a part of its sector
 
 module _ (first second : Part) (rs : List Reading) (both : rs ≡ readings (first .content) (second .content)) (h : Holder) (found : h ≡ active rs) where

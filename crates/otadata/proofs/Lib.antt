@@ -9,6 +9,7 @@ pub mod Goodness
 pub mod Making
 pub mod Numbers
 pub mod ReadingLaw
+pub mod Restating
 pub mod RoundTrip
 pub mod SectorReads
 pub mod Stores

@@ -34,7 +34,7 @@ four-bytes : (w : ℕ) → w < 2 ^ 32 → byteOf w 0 + 256 * byteOf w 1 + 65536 
 four-bytes w l =
     joined w (w / 256) (w / 65536) (byteOf w 0) (byteOf w 1) (byteOf w 2) (byteOf w 3) (omega arith) (omega arith) (omega arith)
 
-word-of-bytes : (s : List ℕ) (at w : ℕ) → w < 2 ^ 32 → ((i : ℕ) → i < 4 → getD s (at + i) 0 ≡ byteOf w i) → word s at ≡ w
+pub word-of-bytes : (s : List ℕ) (at w : ℕ) → w < 2 ^ 32 → ((i : ℕ) → i < 4 → getD s (at + i) 0 ≡ byteOf w i) → word s at ≡ w
 word-of-bytes s at w l same =
     ap₂ _+_
     (ap₂ _+_
@@ -77,17 +77,17 @@ word-of-state w e =
 -- ---- the fields of the bytes of the fields
 
 module _ (q : ℕ) (label : List ℕ) (state : ℕ) (lq : q < 2 ^ 32) (size : length label ≡ 20) (ls : state < 2 ^ 32) where
-  made-sequence : sequenceField (recordOf q label state) ≡ q
+  pub made-sequence : sequenceField (recordOf q label state) ≡ q
   made-sequence = word-of-bytes (recordOf q label state) 0 q lq (λ (i : ℕ) (l : i < 4). rw zero-add (sequence-byte q label state size i l))
 
-  made-state : stateField (recordOf q label state) ≡ state
+  pub made-state : stateField (recordOf q label state) ≡ state
   made-state =
       word-of-bytes (recordOf q label state) 24 state ls
       (λ (i : ℕ) (l : i < 4).
       let at : 24 + i - 24 ≡ i = omega arith in
       state-byte q label state size (24 + i) (omega arith) (omega arith) ∙ ap (byteOf state) at)
 
-  made-label : labelField (recordOf q label state) ≡ label
+  pub made-label : labelField (recordOf q label state) ≡ label
   made-label =
       ext-getD 0 (labelField (recordOf q label state)) label
       (label-field-length (recordOf q label state) (record-length q label state size) ∙ sym size)
@@ -112,7 +112,7 @@ made-good : (q : ℕ) (label : List ℕ) (state : ℕ) → made q label state .n
 unfolding made
 made-good q label state e = made-by (good (recordOf q label state)) (recordOf q label state) (replicate 32 0) e
 
-reading-of-good : (rec : List ℕ) → good rec ≡ true
+pub reading-of-good : (rec : List ℕ) → good rec ≡ true
     → reading rec ≡ record { verdict = Good (record { 0 = sequenceField rec }) (stateOf (stateField rec)); label = labelField rec }
 unfolding reading
 reading-of-good rec g = simp g

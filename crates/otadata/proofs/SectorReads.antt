@@ -49,7 +49,7 @@ module _ (s : List ℕ) (size : length s ≡ 4096) where
 
 -- ---- the fields that are read
 
-no-record : good [] ≡ false
+pub no-record : good [] ≡ false
 unfolding good
 no-record = refl
 

@@ -6,12 +6,13 @@ use mathlib.Core.List.{List, [], _∷_}
 use denote.Ref.{RefT}
 use lib.Dec.{eqb, ltb}
 use lib.ListN.{length, getD, set, take, replicate}
+use Rattle.otadata.specs.declared.State.{State}
 use Rattle.otadata.specs.declared.Verdict.{Verdict}
 use Rattle.otadata.specs.declared.Verdict.the-variants.{None as NotGood, Good}
 use Rattle.otadata.specs.declared.Reading.{Reading}
 use Rattle.otadata.specs.declared.Holder.{Holder}
 use Rattle.otadata.specs.declared.Holder.the-variants.{None, Sector}
-use Rattle.otadata.specs.Records.{good, usable, reading, noReading}
+use Rattle.otadata.specs.Records.{stateWord, good, usable, reading, noReading, recordOf}
 
 -- ---- reading
 
@@ -111,3 +112,14 @@ singleStore s rec m = cond (sized s rec) (cond (ltb m 4128) (reply 0 (stored rec
 -- document 01's term *rewrite*: all 4,128 stores; a wrong size is refused with 2
 unfoldable pub rewrite : List ℕ → List ℕ → Reply
 rewrite s rec = cond (sized s rec) (reply 0 (cut rec 4128 s)) (reply 2 s)
+
+-- ---- changing a state
+
+-- the sector rewritten whole with its record in another state: sequence and label stay
+abbrev pub restatedVerdict : Verdict → List ℕ → State → List ℕ → List ℕ
+restatedVerdict NotGood label state s = s
+restatedVerdict (Good q old) label state s = rewrite s (recordOf (q .0) label (stateWord state)) .sector
+
+-- a sector without a good record stays as it is
+unfoldable pub restated : State → List ℕ → List ℕ
+restated state s = restatedVerdict (sectorReading s .verdict) (sectorReading s .label) state s

@@ -10,6 +10,7 @@ pub use sectors::active;
 pub use sectors::active_record;
 pub use sectors::read_sector;
 pub use sectors::readings;
+pub use sectors::restate;
 pub use sectors::rewrite;
 pub use sectors::store;
 pub use words::check_word;

@@ -169,7 +169,7 @@ pub fn make(sequence: Sequence, label: [u8; 20], state: u32) -> Made
 }
 
 // The 32 bytes of the fields.
-fn fields(sequence: Sequence, label: [u8; 20], state: u32) -> [u8; RECORD_SIZE]
+pub(crate) fn fields(sequence: Sequence, label: [u8; 20], state: u32) -> [u8; RECORD_SIZE]
     ensures { λ r. ⌜ r ≡ recordOf (sequence .0) label state ⌝ }
 {
     let check = check_word(sequence);

@@ -1,7 +1,7 @@
 // The two otadata sectors: reading them, the active record, and rewriting one.
 ghost use mathlib.Core.Path.{_≡_};
 ghost use Rattle.otadata.specs.Sectors.{sectorReading, readings as Sectors·readings, sequenceIn, active as Sectors·active};
-ghost use Rattle.otadata.specs.Sectors.{part, recordPart, activePart, sized as Sectors·sized, reply, singleStore, rewrite as Sectors·rewrite};
+ghost use Rattle.otadata.specs.Sectors.{part, recordPart, activePart, sized as Sectors·sized, reply, singleStore, rewrite as Sectors·rewrite, restated};
 use crate::DONE;
 use crate::Holder;
 use crate::NO_SUCH_STORE;
@@ -9,8 +9,10 @@ use crate::RECORD_SIZE;
 use crate::Reading;
 use crate::SECTOR_SIZE;
 use crate::STORES;
+use crate::State;
 use crate::Verdict;
 use crate::WRONG_SIZE;
+use crate::records::fields;
 use crate::records::read;
 use crate::records::usable;
 
@@ -126,4 +128,23 @@ pub fn rewrite(sector: &mut [u8], rec: &[u8]) -> u32
         store(sector, rec, m);
     }
     DONE
+}
+
+// Rewrites a sector whole with its record in another state; sequence and label stay. A sector without a good record stays as it is.
+// Gives what the sector then reads as.
+pub fn restate(sector: &mut [u8], state: State) -> Reading
+    ensures { λ r. ⌜ (now (sector .exit) ≡ restated state (now (sector .entry))) × (r ≡ sectorReading (now (sector .exit))) ⌝ }
+{
+    let reading = read_sector(sector);
+    let verdict = reading.verdict;
+    let Verdict::Good(sequence, _) = verdict else {
+        return reading;
+    };
+    let label = reading.label;
+    let rec = fields(sequence, label, state.word());
+    rewrite(sector, &rec);
+    Reading {
+        verdict: Verdict::Good(sequence, state),
+        label,
+    }
 }

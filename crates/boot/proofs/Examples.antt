@@ -1,0 +1,99 @@
+-- The definitions evaluated: document 01's example of a fall back, and small ones.
+-- Assumes nothing.
+use Prim.Native.Nat.{ℕ}
+use mathlib.Core.Path.{_≡_, refl}
+use mathlib.Core.Bool.{true}
+use mathlib.Core.List.{List, [], _∷_}
+use lib.Count.{onesIn}
+use Rattle.otadata.specs.declared.Slot.{Slot}
+use Rattle.otadata.specs.declared.State.{State}
+use Rattle.otadata.specs.declared.State.the-variants.{New, Valid, Aborted}
+use Rattle.otadata.specs.declared.Verdict.the-variants.{Good}
+use Rattle.otadata.specs.declared.Reading.{Reading}
+use Rattle.otadata.specs.declared.Holder.the-variants.{None, Sector}
+use Rattle.otadata.specs.Records.{namesSlot, noReading}
+use Rattle.otadata.specs.Sectors.{active}
+use Rattle.efuse.specs.Register.{setLowest, raised}
+use Rattle.partitions.specs.declared.App.the-variants.{Factory as FactoryApp, OtaSlot}
+use Rattle.partitions.specs.PartitionList.{factorySubtype, timesListed, slotCount}
+use Rattle.app_image.specs.declared.Facts.{Facts}
+use Rattle.boot.specs.declared.Settings.{Settings}
+use Rattle.boot.specs.declared.Passing.the-variants.{No, Yes}
+use Rattle.boot.specs.declared.Choice.the-variants.{Nothing, Through, Found}
+use Rattle.boot.specs.declared.Reply.the-variants.{Starts}
+use Rattle.boot.specs.Choice.{passing, Passes, throughRecord, throughRecords, factory, barred, candidate, searchFrom, choice}
+use Rattle.boot.specs.Boot.{view, refused, anyGood, registerAfter}
+use Rattle.boot.proofs.ThroughRecords.{passed-facts}
+
+abbrev pub slot1 : Slot
+slot1 = record { 0 = 1 }
+
+abbrev pub goodReading : ℕ → State → List ℕ → Reading
+goodReading q state label = record { verdict = Good (record { 0 = q }) state; label = label }
+
+-- document 01: sequences 4 valid and 5 aborted, n = 2, slot 1 passes: slot 1 through sequence 4, whichever sector holds it
+module _ (list flash : List ℕ) (settings : Settings) (a b : List ℕ) where
+  abbrev pub ThroughFour : Facts → Type 0
+  ThroughFour facts =
+      (choice list flash settings (goodReading 4 Valid a ∷ goodReading 5 Aborted b ∷ []) ≡ Through 0 slot1 facts)
+      × (choice list flash settings (goodReading 5 Aborted b ∷ goodReading 4 Valid a ∷ []) ≡ Through 1 slot1 facts)
+
+  module _ (n : slotCount list ≡ 2) where
+    through-four : (facts : Facts) → passing list flash settings (OtaSlot slot1) ≡ Yes facts → ThroughFour facts
+    unfolding choice throughRecords throughRecord active namesSlot
+    through-four facts p = (simp (n, p), simp (n, p))
+
+    pub falls-back : Passes list flash settings (OtaSlot slot1) → (facts : Facts) × ThroughFour facts
+    falls-back passes = let (facts, p) = passed-facts _ passes in (facts, through-four facts p)
+
+-- the higher sequence is active, and sector 0 on a tie
+pub higher : active (goodReading 4 Valid [] ∷ goodReading 5 New [] ∷ []) ≡ Sector 1
+unfolding active
+higher = refl
+
+pub tie : active (goodReading 4 Valid [] ∷ goodReading 4 New [] ∷ []) ≡ Sector 0
+unfolding active
+tie = refl
+
+-- the last search passes over slot 0, which an aborted record names, whether it passes or not, and takes slot 1
+module _ (list flash : List ℕ) (settings : Settings) (facts : Facts) (n : slotCount list ≡ 2) (p : passing list flash settings (OtaSlot slot1) ≡ Yes facts) where
+  abbrev abortedAlone : List Reading
+  abortedAlone = goodReading 5 Aborted [] ∷ noReading ∷ []
+
+  candidates : (candidate list flash settings abortedAlone 0 ≡ No) × (candidate list flash settings abortedAlone 1 ≡ Yes facts)
+  unfolding candidate barred namesSlot noReading
+  candidates = (simp n, simp (n, p))
+
+  not-listed : timesListed list factorySubtype ≡ 0 → factory list flash settings ≡ Nothing
+  unfolding factory
+  not-listed none = simp none
+
+  pub passes-over : timesListed list factorySubtype ≡ 0 → choice list flash settings abortedAlone ≡ Found slot1 facts
+  unfolding choice throughRecords searchFrom active noReading
+  passes-over none = rw n (simp (not-listed none, candidates .0, candidates .1))
+
+-- a slot that it found raises the register to its app's version, 4, while neither sector holds a good record
+module _ (chip : ℕ) (facts : Facts) (v : facts .version .0 ≡ 4) where
+  abbrev protected : Settings
+  protected = record { chip = chip; efuse = 0x0B; rollback = true; «anti_rollback» = true }
+
+  pub raises : registerAfter protected (noReading ∷ noReading ∷ []) (Found slot1 facts) ≡ 0x0F
+  unfolding registerAfter anyGood noReading raised setLowest onesIn
+  raises = simp v
+
+  pub keeps : registerAfter protected (noReading ∷ goodReading 5 Aborted [] ∷ []) (Found slot1 facts) ≡ 0x0B
+  unfolding registerAfter anyGood noReading
+  keeps = refl
+
+-- the views of replies: nothing bootable, slot 1 through sector 0, and factory
+module _ (settings : Settings) (register : ℕ) where
+  pub nothing-bootable : view (refused settings 10) ≡ record { number = 10; values = 0 ∷ 0 ∷ 2 ∷ settings .efuse ∷ [] }
+  nothing-bootable = refl
+
+  pub starts-slot : view (Starts (record { app = OtaSlot slot1; through = Sector 0; register = register }))
+      ≡ record { number = 0; values = 2 ∷ 1 ∷ 0 ∷ register ∷ [] }
+  starts-slot = refl
+
+  pub starts-factory : view (Starts (record { app = FactoryApp; through = None; register = register }))
+      ≡ record { number = 0; values = 1 ∷ 0 ∷ 2 ∷ register ∷ [] }
+  starts-factory = refl

@@ -1,0 +1,143 @@
+-- The steps of boot put together, and its reply, as the code makes them.
+-- Assumes nothing.
+use Prim.Native.Nat.{ℕ, _<_}
+use mathlib.Core.Path.{_≡_, _∙_, refl, sym, ap}
+use mathlib.Core.Bool.{Bool, true, false, not}
+use mathlib.Core.List.{List}
+use native.Mathlib.Omega.{arith}
+use lib.ListN.{length, getD}
+use borrow.Author.Tests.{not-true, not-false}
+use Rattle.otadata.specs.declared.Slot.{Slot}
+use Rattle.otadata.specs.declared.Reading.{Reading}
+use Rattle.otadata.specs.declared.Holder.{Holder}
+use Rattle.otadata.specs.declared.Holder.the-variants.{None, Sector}
+use Rattle.efuse.specs.Register.{width, raised}
+use Rattle.partitions.specs.declared.App.the-variants.{Factory as FactoryApp, OtaSlot}
+use Rattle.partitions.specs.declared.Listing.{Listing}
+use Rattle.partitions.specs.declared.Checked.{Checked}
+use Rattle.partitions.specs.declared.Checked.the-variants.{Refused as NotAccepted, Accepted}
+use Rattle.app_image.specs.declared.Facts.{Facts}
+use Rattle.boot.specs.declared.Settings.{Settings}
+use Rattle.boot.specs.declared.Choice.{Choice}
+use Rattle.boot.specs.declared.Choice.the-variants.{Nothing, Through, Factory, Found}
+use Rattle.boot.specs.declared.Reply.{Reply}
+use Rattle.boot.specs.declared.Reply.the-variants.{Starts}
+use Rattle.boot.specs.Acceptance.{accepted, passedTests, Accepts}
+use Rattle.boot.specs.Choice.{choice}
+use Rattle.boot.specs.Boot.{outcome, refused, readingsOf, marked, usedSector, awaiting, goodVerdict, anyGood, registerAfter, replyTo, fromMarks, byTests, boot}
+use Rattle.otadata.proofs.Booleans.{true-is-not-false}
+use Rattle.boot.proofs.ChoiceLaws.{Sound, nothing, through, by-factory, found, choice-sound}
+use Rattle.boot.proofs.TestLaws.{Tested, fails, passes, tests-decide}
+use Rattle.boot.proofs.Tries.{first-is-so, second-decides}
+use Rattle.boot.proofs.TwoSectors.{marked-size}
+
+-- ---- step 4
+
+module _ (rs : List Reading) (size : length rs ≡ 2) (d : Reading) (t : Bool) (tested : t ≡ goodVerdict (getD rs 0 d .verdict)) where
+  pub first-good : t ≡ true → true ≡ anyGood rs
+  unfolding anyGood
+  first-good = first-is-so goodVerdict rs size d t tested
+
+  pub second-good : t ≡ false → (u : Bool) → u ≡ goodVerdict (getD rs 1 d .verdict) → u ≡ anyGood rs
+  unfolding anyGood
+  second-good = second-decides goodVerdict rs size d t tested
+
+module _ (settings : Settings) (rs : List Reading) (slot : Slot) (facts : Facts) where
+  pub register-kept : not (settings .«anti_rollback») ≡ true → settings .efuse ≡ registerAfter settings rs (Found slot facts)
+  unfolding registerAfter
+  register-kept n = simp (not-true (settings .«anti_rollback») n)
+
+  module _ (on : not (settings .«anti_rollback») ≡ false) (t : Bool) (tested : t ≡ anyGood rs) where
+    pub register-held : t ≡ true → settings .efuse ≡ registerAfter settings rs (Found slot facts)
+    unfolding registerAfter
+    register-held y = simp (not-false (settings .«anti_rollback») on, ← tested, y)
+
+    pub register-raised : t ≡ false → (r : ℕ) → r ≡ raised width (settings .efuse) (facts .version .0) → r ≡ registerAfter settings rs (Found slot facts)
+    unfolding registerAfter
+    register-raised f r e = e ∙ simp (not-false (settings .«anti_rollback») on, ← tested, f)
+
+-- ---- the reply
+
+pub uses-sector : (c : Choice) (k : ℕ) (slot : Slot) (facts : Facts) → c ≡ Through k slot facts → Sector k ≡ usedSector c
+uses-sector c k slot facts e = simp e
+
+module _ (settings : Settings) (rs : List Reading) (c : Choice) where
+  pub nothing-starts : c ≡ Nothing → refused settings 10 ≡ replyTo settings rs c
+  nothing-starts e = simp e
+
+  pub record-starts : (k : ℕ) (slot : Slot) (facts : Facts) → c ≡ Through k slot facts
+      → Starts (record { app = OtaSlot slot; through = Sector k; register = settings .efuse }) ≡ replyTo settings rs c
+  unfolding registerAfter
+  record-starts k slot facts e = simp e
+
+  pub factory-starts : (facts : Facts) → c ≡ Factory facts
+      → Starts (record { app = FactoryApp; through = None; register = settings .efuse }) ≡ replyTo settings rs c
+  unfolding registerAfter
+  factory-starts facts e = simp e
+
+  pub found-starts : (slot : Slot) (facts : Facts) → c ≡ Found slot facts → (register : ℕ) → register ≡ registerAfter settings rs (Found slot facts)
+      → Starts (record { app = OtaSlot slot; through = None; register = register }) ≡ replyTo settings rs c
+  found-starts slot facts e register r = simp (e, r)
+
+-- ---- the steps
+
+-- a choice comes through one of the two sectors
+sector-by : (list flash : List ℕ) (settings : Settings) (rs : List Reading) {c : Choice} → Sound list flash settings rs c
+    → (k : ℕ) → usedSector c ≡ Sector k → k < 2
+sector-by list flash settings rs nothing k e = absurd (let z : _≡_ {A = ℕ} 0 1 = cc in omega arith)
+sector-by list flash settings rs (through {k = j} l u p) k e = let same : j ≡ k = cc in omega arith
+sector-by list flash settings rs (by-factory p) k e = absurd (let z : _≡_ {A = ℕ} 0 1 = cc in omega arith)
+sector-by list flash settings rs (found p) k e = absurd (let z : _≡_ {A = ℕ} 0 1 = cc in omega arith)
+
+pub one-of-two : (list flash : List ℕ) (settings : Settings) (rs : List Reading) (c : Choice) → c ≡ choice list flash settings rs
+    → (h : Holder) → h ≡ usedSector c → (k : ℕ) → h ≡ Sector k → k < 2
+one-of-two list flash settings rs c chose h used k e =
+    sector-by list flash settings rs (choice-sound list flash settings rs) k (ap usedSector (sym chose) ∙ sym used ∙ e)
+
+pub marks-keep-size : (settings : Settings) (o left : List ℕ) → length o ≡ 8192 → left ≡ marked settings o → length left ≡ 8192
+marks-keep-size settings o left size e = ap length e ∙ marked-size settings o size
+
+pub steps : (list flash o : List ℕ) (settings : Settings) (left : List ℕ) (rs : List Reading) → (left ≡ marked settings o) × (rs ≡ readingsOf left)
+    → (c : Choice) → c ≡ choice list flash settings rs → (h : Holder) → h ≡ usedSector c
+    → (last : List ℕ) → last ≡ awaiting settings h left → (r : Reply) → r ≡ replyTo settings rs c
+    → outcome r last ≡ fromMarks list flash settings (marked settings o)
+unfolding fromMarks
+steps list flash o settings left rs (is, read) c chose h used last left-by r replied =
+    simp (replied, left-by, used, chose, read, is)
+
+-- ---- the tests
+
+module _ (list flash o : List ℕ) (settings : Settings) (c : Checked) (is : c ≡ accepted list (length flash) (length o) settings) where
+  pub tests-refuse : (number : ℕ) → c ≡ NotAccepted number → outcome (refused settings number) o ≡ boot list flash o settings
+  unfolding boot
+  tests-refuse number e = simp (← is, e)
+
+  size-by : {d : Checked} → Tested (length o ≡ 8192) d → (listing : Listing) → d ≡ Accepted listing → length o ≡ 8192
+  size-by (fails l) listing e = absurd (let z : _≡_ {A = ℕ} 0 1 = cc in omega arith)
+  size-by (passes size) listing e = size
+
+  pub accepted-size : (listing : Listing) → c ≡ Accepted listing → length o ≡ 8192
+  accepted-size listing e = size-by (tests-decide list (length flash) (length o) settings) listing (sym is ∙ e)
+
+  pub tests-pass : (listing : Listing) → c ≡ Accepted listing → (r : Reply) (left : List ℕ)
+      → outcome r left ≡ fromMarks list flash settings (marked settings o) → outcome r left ≡ boot list flash o settings
+  unfolding boot
+  tests-pass listing e r left steps = steps ∙ simp (← is, e)
+
+-- ---- the reply where the tests pass
+
+-- what both sectors read as after the aborted marks
+abbrev pub afterMarks : Settings → List ℕ → List Reading
+afterMarks settings o = readingsOf (marked settings o)
+
+module _ (list flash o : List ℕ) (settings : Settings) where
+  reply-by : (c : Checked) → passedTests c ≡ true
+      → byTests list flash o settings c .reply ≡ replyTo settings (afterMarks settings o) (choice list flash settings (afterMarks settings o))
+  unfolding fromMarks
+  reply-by (NotAccepted number) e = absurd (true-is-not-false false e refl)
+  reply-by (Accepted listing) e = refl
+
+  pub replies : Accepts list (length flash) (length o) settings
+      → boot list flash o settings .reply ≡ replyTo settings (afterMarks settings o) (choice list flash settings (afterMarks settings o))
+  unfolding boot
+  replies = reply-by (accepted list (length flash) (length o) settings)

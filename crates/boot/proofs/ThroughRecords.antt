@@ -1,0 +1,96 @@
+-- When boot chooses through a record: by the active record's app, and by that of the other usable record.
+-- Assumes nothing.
+use Prim.Native.Nat.{ℕ, _-_, _<_}
+use mathlib.Core.Path.{_≡_, _∙_, refl, ap}
+use mathlib.Core.Bool.{Bool, true, false}
+use mathlib.Core.List.{List}
+use mathlib.Core.Logic.{_⊎_, inl, inr, ⊎-elim}
+use lib.ListN.{getD}
+use Rattle.otadata.specs.declared.Sequence.{Sequence}
+use Rattle.otadata.specs.declared.State.{State}
+use Rattle.otadata.specs.declared.Verdict.{Verdict}
+use Rattle.otadata.specs.declared.Verdict.the-variants.{None as NotGood, Good}
+use Rattle.otadata.specs.declared.Reading.{Reading}
+use Rattle.otadata.specs.declared.Holder.the-variants.{Sector}
+use Rattle.otadata.specs.Records.{usableState, usableVerdict, usable, noReading}
+use Rattle.otadata.specs.Sectors.{ofUsable, active}
+use Rattle.otadata.proofs.Booleans.{true-is-not-false}
+use Rattle.partitions.specs.declared.App.the-variants.{OtaSlot}
+use Rattle.app_image.specs.declared.Facts.{Facts}
+use Rattle.boot.specs.declared.Settings.{Settings}
+use Rattle.boot.specs.declared.Passing.{Passing}
+use Rattle.boot.specs.declared.Passing.the-variants.{No, Yes}
+use Rattle.boot.specs.declared.Choice.the-variants.{Nothing, Through}
+use Rattle.boot.specs.Choice.{passing, passed, namedSlot, throughRecord, throughRecords, choice}
+use Rattle.boot.proofs.TwoSectors.{two}
+
+-- sector k holds a usable record of sequence q
+pub record UsableOf (rs : List Reading) (k : ℕ) (q : Sequence) : Type 0 where
+  pub state : State
+  pub holds : getD rs k noReading .verdict ≡ Good q state
+  pub usable : usableState state ≡ true
+
+-- ---- the active record
+
+of-first : (second higher : Bool) → (ofUsable true second higher ≡ Sector 0) ⊎ ((ofUsable true second higher ≡ Sector 1) × (second ≡ true))
+of-first false higher = inl refl
+of-first true true = inr (refl, refl)
+of-first true false = inl refl
+
+of-second : (first higher : Bool) → (ofUsable first true higher ≡ Sector 1) ⊎ ((ofUsable first true higher ≡ Sector 0) × (first ≡ true))
+of-second false higher = inl refl
+of-second true true = inl refl
+of-second true false = inr (refl, refl)
+
+module _ (rs : List Reading) where
+  active-by : (p : ℕ) → p < 2 → usable (getD rs (1 - p) noReading) ≡ true
+      → (active rs ≡ Sector (1 - p)) ⊎ ((active rs ≡ Sector p) × (usable (getD rs p noReading) ≡ true))
+  unfolding active
+  active-by =
+      two (λ (p : ℕ). usable (getD rs (1 - p) noReading) ≡ true → (active rs ≡ Sector (1 - p)) ⊎ ((active rs ≡ Sector p) × (usable (getD rs p noReading) ≡ true)))
+      (λ (u : usable (getD rs 1 noReading) ≡ true). rw u (of-second (usable (getD rs 0 noReading)) _))
+      (λ (u : usable (getD rs 0 noReading) ≡ true). rw u (of-first (usable (getD rs 1 noReading)) _))
+
+  usable-of : (k : ℕ) (v : Verdict) → getD rs k noReading .verdict ≡ v → usableVerdict v ≡ true → (q : Sequence) × UsableOf rs k q
+  usable-of k NotGood e u = absurd (true-is-not-false false u refl)
+  usable-of k (Good q state) e u = (q, record { state = state; holds = e; usable = u })
+
+  -- where the other sector's record is usable, that is the active one, or the one of sector p is usable too, and active
+  pub active-or : (p : ℕ) → p < 2 → (u : Sequence) → UsableOf rs (1 - p) u
+      → (active rs ≡ Sector (1 - p)) ⊎ ((active rs ≡ Sector p) × ((q : Sequence) × UsableOf rs p q))
+  active-or p l u other =
+      ⊎-elim inl
+      (λ (own : (active rs ≡ Sector p) × (usable (getD rs p noReading) ≡ true)). inr (own .0, usable-of p _ refl (own .1)))
+      (active-by p l (ap usableVerdict (other .holds) ∙ other .usable))
+
+-- ---- the choice
+
+pub passed-facts : (p : Passing) → passed p ≡ true → (facts : Facts) × (p ≡ Yes facts)
+passed-facts No e = absurd (true-is-not-false false e refl)
+passed-facts (Yes facts) e = (facts, refl)
+
+module _ (list flash : List ℕ) (settings : Settings) (rs : List Reading) where
+  module _ (k : ℕ) (q : Sequence) (r : UsableOf rs k q) where
+    through-yes : (facts : Facts) → passing list flash settings (OtaSlot (namedSlot list q)) ≡ Yes facts
+        → throughRecord list flash settings k (getD rs k noReading) ≡ Through k (namedSlot list q) facts
+    unfolding throughRecord
+    through-yes facts p = simp (r .holds, r .usable, p)
+
+    through-no : passing list flash settings (OtaSlot (namedSlot list q)) ≡ No
+        → throughRecord list flash settings k (getD rs k noReading) ≡ Nothing
+    unfolding throughRecord
+    through-no p = simp (r .holds, r .usable, p)
+
+  module _ (k : ℕ) (q : Sequence) (is-active : active rs ≡ Sector k) (r : UsableOf rs k q) where
+    -- the active record's app passes
+    pub through-active : (facts : Facts) → passing list flash settings (OtaSlot (namedSlot list q)) ≡ Yes facts
+        → choice list flash settings rs ≡ Through k (namedSlot list q) facts
+    unfolding choice throughRecords
+    through-active facts p = simp (is-active, through-yes k q r facts p)
+
+    -- it doesn't, and that of the other usable record does
+    pub through-other : passing list flash settings (OtaSlot (namedSlot list q)) ≡ No
+        → (u : Sequence) → UsableOf rs (1 - k) u → (facts : Facts) → passing list flash settings (OtaSlot (namedSlot list u)) ≡ Yes facts
+        → choice list flash settings rs ≡ Through (1 - k) (namedSlot list u) facts
+    unfolding choice throughRecords
+    through-other n u other facts p = simp (is-active, through-no k q r n, through-yes (1 - k) u other facts p)

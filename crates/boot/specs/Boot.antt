@@ -1,0 +1,151 @@
+-- The boot call: its four steps (step 2, the choice, is in Choice.antt), what it replies, and what it leaves of otadata.
+use Prim.Native.Nat.{ℕ, _*_}
+use mathlib.Core.Bool.{Bool, true, false, cond, not, _&&_}
+use mathlib.Core.List.{List, [], _∷_, _++_}
+use lib.Dec.{eqb}
+use lib.ListN.{length, take, drop}
+use Rattle.otadata.specs.Answers.{Answer}
+use Rattle.otadata.specs.declared.State.{State}
+use Rattle.otadata.specs.declared.State.the-variants.{New, Pending, Aborted}
+use Rattle.otadata.specs.declared.Verdict.{Verdict}
+use Rattle.otadata.specs.declared.Verdict.the-variants.{None as NotGood, Good}
+use Rattle.otadata.specs.declared.Reading.{Reading}
+use Rattle.otadata.specs.declared.Holder.{Holder}
+use Rattle.otadata.specs.declared.Holder.the-variants.{None, Sector}
+use Rattle.otadata.specs.Records.{stateWord}
+use Rattle.otadata.specs.Sectors.{sectorReading, readings, restated}
+use Rattle.efuse.specs.Register.{width, raised}
+use Rattle.partitions.specs.declared.App.{App}
+use Rattle.partitions.specs.declared.App.the-variants.{Factory as FactoryApp, OtaSlot}
+use Rattle.partitions.specs.declared.Checked.{Checked}
+use Rattle.partitions.specs.declared.Checked.the-variants.{Refused as NotAccepted, Accepted}
+use Rattle.boot.specs.declared.Settings.{Settings}
+use Rattle.boot.specs.declared.Choice.{Choice}
+use Rattle.boot.specs.declared.Choice.the-variants.{Nothing, Through, Factory, Found}
+use Rattle.boot.specs.declared.Reply.{Reply}
+use Rattle.boot.specs.declared.Reply.the-variants.{Refused, Starts}
+use Rattle.boot.specs.Acceptance.{accepted}
+use Rattle.boot.specs.Choice.{ofEither, choice}
+
+-- ---- the reply
+
+-- 1 for factory, 2 for a slot; then the slot
+abbrev pub appValues : App → List ℕ
+appValues FactoryApp = 1 ∷ 0 ∷ []
+appValues (OtaSlot slot) = 2 ∷ slot .0 ∷ []
+
+-- the sector, 2 for none
+abbrev pub sectorValue : Holder → ℕ
+sectorValue None = 2
+sectorValue (Sector k) = k
+
+-- the view of a reply: factory or slot (0 where refused), the slot, the sector used or none, and the register
+abbrev pub view : Reply → Answer
+view (Refused refusal) = record { number = refusal .number; values = 0 ∷ 0 ∷ 2 ∷ refusal .register ∷ [] }
+view (Starts start) =
+    record { number = 0; values = appValues (start .app) ++ (sectorValue (start .through) ∷ start .register ∷ []) }
+
+-- what boot replies, and the otadata that it leaves
+pub record Outcome : Type 0 where
+  pub reply : Reply
+  pub otadata : List ℕ
+
+abbrev pub outcome : Reply → List ℕ → Outcome
+outcome r o = record { reply = r; otadata = o }
+
+abbrev pub refused : Settings → ℕ → Reply
+refused settings number = Refused (record { number = number; register = settings .efuse })
+
+-- ---- the two sectors of otadata
+
+abbrev pub sectorAt : ℕ → List ℕ → List ℕ
+sectorAt k o = take 4096 (drop (k * 4096) o)
+
+-- otadata with other bytes in sector k
+abbrev pub withSector : ℕ → List ℕ → List ℕ → List ℕ
+withSector k s o = take (k * 4096) o ++ (s ++ drop 4096 (drop (k * 4096) o))
+
+-- what both sectors read as
+abbrev pub readingsOf : List ℕ → List Reading
+readingsOf o = readings (sectorAt 0 o) (sectorAt 1 o)
+
+-- the record of sector k in another state, by a whole rewrite of that sector
+unfoldable pub withState : State → ℕ → List ℕ → List ℕ
+withState state k o = withSector k (restated state (sectorAt k o)) o
+
+-- ---- step 1
+
+-- a good record in that state
+abbrev pub inState : State → Verdict → Bool
+inState state NotGood = false
+inState state (Good q s) = eqb (stateWord s) (stateWord state)
+
+-- with rollback on, a good pending record in sector k is rewritten as aborted
+unfoldable pub markedAt : Settings → ℕ → List ℕ → List ℕ
+markedAt settings k o =
+    cond (settings .rollback && inState Pending (sectorReading (sectorAt k o) .verdict)) (withState Aborted k o) o
+
+-- sector 0 first
+abbrev pub marked : Settings → List ℕ → List ℕ
+marked settings o = markedAt settings 1 (markedAt settings 0 o)
+
+-- ---- step 3
+
+-- the sector whose record a choice came through, or none
+abbrev pub usedSector : Choice → Holder
+usedSector Nothing = None
+usedSector (Through k slot facts) = Sector k
+usedSector (Factory facts) = None
+usedSector (Found slot facts) = None
+
+-- with rollback on, a record in state new that the choice came through is rewritten as pending
+unfoldable pub awaiting : Settings → Holder → List ℕ → List ℕ
+awaiting settings None o = o
+awaiting settings (Sector k) o =
+    cond (settings .rollback && inState New (sectorReading (sectorAt k o) .verdict)) (withState Pending k o) o
+
+-- ---- step 4
+
+abbrev pub goodVerdict : Verdict → Bool
+goodVerdict NotGood = false
+goodVerdict (Good q state) = true
+
+-- a sector holds a good record
+unfoldable pub anyGood : List Reading → Bool
+anyGood rs = ofEither goodVerdict rs
+
+-- with anti-rollback on, the last search while neither sector holds a good record raises the register to its app's version
+unfoldable pub registerAfter : Settings → List Reading → Choice → ℕ
+registerAfter settings rs Nothing = settings .efuse
+registerAfter settings rs (Through k slot facts) = settings .efuse
+registerAfter settings rs (Factory facts) = settings .efuse
+registerAfter settings rs (Found slot facts) =
+    cond (settings .«anti_rollback» && not (anyGood rs)) (raised width (settings .efuse) (facts .version .0)) (settings .efuse)
+
+-- ---- boot
+
+-- the start of an app, by that choice of it
+abbrev pub starts : Settings → List Reading → Choice → App → Reply
+starts settings rs made app = Starts (record { app = app; through = usedSector made; register = registerAfter settings rs made })
+
+-- the reply to a choice; nothing bootable is refused with 10
+abbrev pub replyTo : Settings → List Reading → Choice → Reply
+replyTo settings rs Nothing = refused settings 10
+replyTo settings rs (Through k slot facts) = starts settings rs (Through k slot facts) (OtaSlot slot)
+replyTo settings rs (Factory facts) = starts settings rs (Factory facts) FactoryApp
+replyTo settings rs (Found slot facts) = starts settings rs (Found slot facts) (OtaSlot slot)
+
+-- steps 2 to 4, on the sectors as step 1 left them
+unfoldable pub fromMarks : List ℕ → List ℕ → Settings → List ℕ → Outcome
+fromMarks list flash settings o =
+    let made = choice list flash settings (readingsOf o) in
+    outcome (replyTo settings (readingsOf o) made) (awaiting settings (usedSector made) o)
+
+-- the four steps, or a refusal of tests 1 to 3, which changes nothing
+abbrev pub byTests : List ℕ → List ℕ → List ℕ → Settings → Checked → Outcome
+byTests list flash o settings (NotAccepted number) = outcome (refused settings number) o
+byTests list flash o settings (Accepted listing) = fromMarks list flash settings (marked settings o)
+
+-- document 01's boot, of a list, a flash, otadata and settings
+unfoldable pub boot : List ℕ → List ℕ → List ℕ → Settings → Outcome
+boot list flash o settings = byTests list flash o settings (accepted list (length flash) (length o) settings)

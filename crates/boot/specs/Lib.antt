@@ -1,0 +1,5 @@
+pub mod Acceptance
+pub mod Choice
+pub mod Boot
+pub mod Laws
+pub mod PowerCut

@@ -1,0 +1,97 @@
+// The state changes of boot: the aborted marks of step 1 and the pending mark of step 3. Otadata is written here only, through `restate`.
+ghost use mathlib.Core.Path.{_≡_};
+ghost use Prim.Native.Nat.{ℕ, _<_};
+ghost use lib.ListN.{length};
+ghost use Rattle.otadata.specs.declared.Holder.the-variants.{Sector};
+ghost use Rattle.otadata.specs.Sectors.{sectorReading};
+ghost use Rattle.boot.specs.Boot.{sectorAt, readingsOf, withState, inState, markedAt, marked, awaiting};
+use crate::Settings;
+use otadata::Holder;
+use otadata::Reading;
+use otadata::SECTOR_SIZE;
+use otadata::State;
+use otadata::Verdict;
+use otadata::read_sector;
+use otadata::restate;
+
+// Step 1: with rollback on, each good pending record becomes aborted, sector 0 first. Gives what both sectors then read as.
+pub(crate) fn mark_aborted(otadata: &mut [u8], settings: Settings) -> [Reading; 2]
+    requires { ⌜ length (now otadata) ≡ 8192 ⌝ }
+    ensures { λ r. ⌜ (now (otadata .exit) ≡ marked settings (now (otadata .entry))) × (r ≡ readingsOf (now (otadata .exit))) ⌝ }
+{
+    let lent = [read_at(otadata, 0), read_at(otadata, 1)];
+    let first = mark_sector(otadata, lent, settings, 0);
+    mark_sector(otadata, first, settings, 1)
+}
+
+// Step 1 in sector k.
+fn mark_sector(
+    otadata: &mut [u8],
+    readings: [Reading; 2],
+    settings: Settings,
+    k: usize,
+) -> [Reading; 2]
+    requires { ⌜ (k < 2) × (length (now otadata) ≡ 8192) × (readings ≡ readingsOf (now otadata)) ⌝ }
+    ensures { λ r. ⌜ (now (otadata .exit) ≡ markedAt settings k (now (otadata .entry))) × (r ≡ readingsOf (now (otadata .exit))) ⌝ }
+{
+    if !settings.rollback {
+        return readings;
+    }
+    if !in_state(readings[k], State::Pending) {
+        return readings;
+    }
+    restate_at(otadata, readings, k, State::Aborted)
+}
+
+// Step 3: with rollback on, a record in state new that the choice came through becomes pending.
+pub(crate) fn mark_pending(
+    otadata: &mut [u8],
+    readings: [Reading; 2],
+    settings: Settings,
+    through: Holder,
+)
+    requires { ⌜ ((k : ℕ) → through ≡ Sector k → k < 2) × (length (now otadata) ≡ 8192) × (readings ≡ readingsOf (now otadata)) ⌝ }
+    ensures { λ r. ⌜ now (otadata .exit) ≡ awaiting settings through (now (otadata .entry)) ⌝ }
+{
+    let Holder::Sector(k) = through else {
+        return;
+    };
+    if !settings.rollback {
+        return;
+    }
+    if !in_state(readings[k], State::New) {
+        return;
+    }
+    restate_at(otadata, readings, k, State::Pending);
+}
+
+// Whether the record is good and in that state.
+fn in_state(reading: Reading, state: State) -> bool
+    ensures { λ r. ⌜ r ≡ inState state (reading .verdict) ⌝ }
+{
+    let verdict = reading.verdict;
+    match verdict {
+        Verdict::None => false,
+        Verdict::Good(_, its) => its.word() == state.word(),
+    }
+}
+
+// What sector k reads as.
+fn read_at(otadata: &[u8], k: usize) -> Reading
+    requires { ⌜ (k < 2) × (length (now otadata) ≡ 8192) ⌝ }
+    ensures { λ r. ⌜ r ≡ sectorReading (sectorAt k (now (otadata .entry))) ⌝ }
+{
+    let at = k * SECTOR_SIZE;
+    read_sector(&otadata[at..at + SECTOR_SIZE])
+}
+
+// Gives the record of sector k another state, and the two readings with that one replaced.
+fn restate_at(otadata: &mut [u8], readings: [Reading; 2], k: usize, state: State) -> [Reading; 2]
+    requires { ⌜ (k < 2) × (length (now otadata) ≡ 8192) × (readings ≡ readingsOf (now otadata)) ⌝ }
+    ensures { λ r. ⌜ (now (otadata .exit) ≡ withState state k (now (otadata .entry))) × (r ≡ readingsOf (now (otadata .exit))) ⌝ }
+{
+    let at = k * SECTOR_SIZE;
+    let mut left = readings;
+    left[k] = restate(&mut otadata[at..at + SECTOR_SIZE], state);
+    left
+}

@@ -1,0 +1,120 @@
+// The boot call: tests 1 to 3, then the four steps, and the reply.
+ghost use mathlib.Core.Path.{_≡_};
+ghost use lib.ListN.{length};
+ghost use Rattle.boot.specs.declared.Choice.the-variants.{Found};
+ghost use Rattle.boot.specs.Boot.{outcome, marked, usedSector, goodVerdict, anyGood, registerAfter, replyTo, fromMarks, boot as Boot·boot};
+use crate::Choice;
+use crate::NOTHING_BOOTABLE;
+use crate::Refusal;
+use crate::Reply;
+use crate::Settings;
+use crate::Start;
+use crate::acceptance::accept;
+use crate::choosing::choose;
+use crate::marks::mark_aborted;
+use crate::marks::mark_pending;
+use app_image::Facts;
+use efuse::raise;
+use otadata::Holder;
+use otadata::Reading;
+use otadata::Slot;
+use otadata::Verdict;
+use partitions::App;
+use partitions::Checked;
+
+// Decides which app the node starts, and changes the states of its records.
+pub fn boot(list: &[u32], flash: &[u8], otadata: &mut [u8], settings: Settings) -> Reply
+    ensures { λ r. ⌜ outcome r (now (otadata .exit)) ≡ Boot·boot (now (list .entry)) (now (flash .entry)) (now (otadata .entry)) settings ⌝ }
+{
+    let checked = accept(list, flash.len(), otadata.len(), settings);
+    if let Checked::Refused(number) = checked {
+        return Reply::Refused(Refusal {
+            number,
+            register: settings.efuse,
+        });
+    }
+    start(list, flash, otadata, settings)
+}
+
+// The four steps.
+fn start(list: &[u32], flash: &[u8], otadata: &mut [u8], settings: Settings) -> Reply
+    requires { ⌜ length (now otadata) ≡ 8192 ⌝ }
+    ensures { λ r. ⌜ outcome r (now (otadata .exit)) ≡ fromMarks (now (list .entry)) (now (flash .entry)) settings (marked settings (now (otadata .entry))) ⌝ }
+{
+    let readings = mark_aborted(otadata, settings);
+    let choice = choose(list, flash, settings, readings);
+    mark_pending(otadata, readings, settings, used_sector(choice));
+    reply_to(settings, readings, choice)
+}
+
+// The sector whose record a choice came through.
+fn used_sector(choice: Choice) -> Holder
+    ensures { λ r. ⌜ r ≡ usedSector choice ⌝ }
+{
+    match choice {
+        Choice::Nothing => Holder::None,
+        Choice::Through(k, _, _) => Holder::Sector(k),
+        Choice::Factory(_) => Holder::None,
+        Choice::Found(_, _) => Holder::None,
+    }
+}
+
+// The reply to a choice.
+fn reply_to(settings: Settings, readings: [Reading; 2], choice: Choice) -> Reply
+    ensures { λ r. ⌜ r ≡ replyTo settings readings choice ⌝ }
+{
+    match choice {
+        Choice::Nothing => Reply::Refused(Refusal {
+            number: NOTHING_BOOTABLE,
+            register: settings.efuse,
+        }),
+        Choice::Through(k, slot, _) => Reply::Starts(Start {
+            app: App::OtaSlot(slot),
+            through: Holder::Sector(k),
+            register: settings.efuse,
+        }),
+        Choice::Factory(_) => Reply::Starts(Start {
+            app: App::Factory,
+            through: Holder::None,
+            register: settings.efuse,
+        }),
+        Choice::Found(slot, facts) => Reply::Starts(Start {
+            app: App::OtaSlot(slot),
+            through: Holder::None,
+            register: register_found(settings, readings, slot, facts),
+        }),
+    }
+}
+
+// Step 4: the register after a slot was found by the last search.
+fn register_found(settings: Settings, readings: [Reading; 2], slot: Slot, facts: Facts) -> u32
+    ensures { λ r. ⌜ r ≡ registerAfter settings readings (Found slot facts) ⌝ }
+{
+    if !settings.anti_rollback {
+        return settings.efuse;
+    }
+    if any_good(readings) {
+        return settings.efuse;
+    }
+    raise(settings.efuse, facts.version)
+}
+
+// Whether a sector holds a good record.
+fn any_good(readings: [Reading; 2]) -> bool
+    ensures { λ r. ⌜ r ≡ anyGood readings ⌝ }
+{
+    if good(readings[0]) {
+        return true;
+    }
+    good(readings[1])
+}
+
+fn good(reading: Reading) -> bool
+    ensures { λ r. ⌜ r ≡ goodVerdict (reading .verdict) ⌝ }
+{
+    let verdict = reading.verdict;
+    match verdict {
+        Verdict::None => false,
+        Verdict::Good(_, _) => true,
+    }
+}
