@@ -20,8 +20,8 @@ use Rattle.otadata.specs.Records.{stateOf}
 use Rattle.otadata.specs.Sectors.{sectorReading}
 use Rattle.otadata.proofs.Booleans.{true-is-not-false, both}
 use Rattle.otadata.proofs.Restating.{state-of-word}
-use Rattle.boot.specs.declared.Settings.{Settings}
-use Rattle.boot.specs.declared.Choice.{Choice}
+use Rattle.boot_choice.specs.declared.Settings.{Settings}
+use Rattle.boot_choice.specs.declared.Choice.{Choice}
 use Rattle.boot.specs.Boot.{sectorAt, withState, inState, markedAt, marked, usedSector, awaiting}
 use Rattle.boot.proofs.ChoiceLaws.{Sound, nothing, through, by-factory, found}
 use Rattle.boot.proofs.TwoSectors.{two, with-state-reading, tested-size, tested-other, marked-at-size}

@@ -22,13 +22,13 @@ use Rattle.app_image.specs.declared.Facts.{Facts}
 use Rattle.app_image.specs.declared.Checked.{Checked}
 use Rattle.app_image.specs.declared.Checked.the-variants.{Refused, Accepted}
 use Rattle.app_image.specs.Check.{check}
-use Rattle.boot.specs.declared.Settings.{Settings}
-use Rattle.boot.specs.declared.Passing.{Passing}
-use Rattle.boot.specs.declared.Passing.the-variants.{No, Yes}
-use Rattle.boot.specs.declared.Choice.{Choice}
-use Rattle.boot.specs.declared.Choice.the-variants.{Nothing, Through, Factory, Found}
-use Rattle.boot.specs.Choice.{image, tooOld, held, passing, orElse, ifPasses, namedSlot, throughVerdict, throughRecord, throughHolder, throughRecords}
-use Rattle.boot.specs.Choice.{factory, barred, candidate, searchFrom, choice}
+use Rattle.boot_choice.specs.declared.Settings.{Settings}
+use Rattle.boot_choice.specs.declared.Passing.{Passing}
+use Rattle.boot_choice.specs.declared.Passing.the-variants.{No, Yes}
+use Rattle.boot_choice.specs.declared.Choice.{Choice}
+use Rattle.boot_choice.specs.declared.Choice.the-variants.{Nothing, Through, Factory, Found}
+use Rattle.boot_choice.specs.Choice.{image, tooOld, held, passing, orElse, ifPasses, namedSlot, throughVerdict, throughRecord, throughHolder, throughRecords}
+use Rattle.boot_choice.specs.Choice.{factory, barred, candidate, searchFrom, choice}
 use Rattle.boot.specs.Laws.{NotBelow}
 
 -- ---- an app that passes

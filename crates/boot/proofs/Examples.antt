@@ -17,11 +17,11 @@ use Rattle.efuse.specs.Register.{setLowest, raised}
 use Rattle.partitions.specs.declared.App.the-variants.{Factory as FactoryApp, OtaSlot}
 use Rattle.partitions.specs.PartitionList.{factorySubtype, timesListed, slotCount}
 use Rattle.app_image.specs.declared.Facts.{Facts}
-use Rattle.boot.specs.declared.Settings.{Settings}
-use Rattle.boot.specs.declared.Passing.the-variants.{No, Yes}
-use Rattle.boot.specs.declared.Choice.the-variants.{Nothing, Through, Found}
+use Rattle.boot_choice.specs.declared.Settings.{Settings}
+use Rattle.boot_choice.specs.declared.Passing.the-variants.{No, Yes}
+use Rattle.boot_choice.specs.declared.Choice.the-variants.{Nothing, Through, Found}
 use Rattle.boot.specs.declared.Reply.the-variants.{Starts}
-use Rattle.boot.specs.Choice.{passing, Passes, throughRecord, throughRecords, factory, barred, candidate, searchFrom, choice}
+use Rattle.boot_choice.specs.Choice.{passing, Passes, throughRecord, throughRecords, factory, barred, candidate, searchFrom, choice}
 use Rattle.boot.specs.Boot.{view, refused, anyGood, registerAfter}
 use Rattle.boot.proofs.ThroughRecords.{passed-facts}
 

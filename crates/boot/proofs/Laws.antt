@@ -15,13 +15,13 @@ use Rattle.otadata.specs.Sectors.{sectorReading}
 use Rattle.otadata.proofs.Booleans.{true-is-not-false}
 use Rattle.partitions.specs.declared.Checked.{Checked}
 use Rattle.app_image.specs.declared.Facts.{Facts}
-use Rattle.boot.specs.declared.Settings.{Settings}
-use Rattle.boot.specs.declared.Passing.the-variants.{Yes}
-use Rattle.boot.specs.declared.Choice.{Choice}
+use Rattle.boot_choice.specs.declared.Settings.{Settings}
+use Rattle.boot_choice.specs.declared.Passing.the-variants.{Yes}
+use Rattle.boot_choice.specs.declared.Choice.{Choice}
 use Rattle.boot.specs.declared.Start.{Start}
 use Rattle.boot.specs.declared.Refusal.{Refusal}
 use Rattle.boot.specs.declared.Reply.the-variants.{Refused, Starts}
-use Rattle.boot.specs.Choice.{passing}
+use Rattle.boot_choice.specs.Choice.{passing}
 use Rattle.boot.specs.Boot.{Outcome, outcome, readingsOf, marked, usedSector, awaiting, replyTo, fromMarks, byTests, refused, boot}
 use Rattle.boot.specs.Laws.{UsableAt, ThroughUsable, NotBelow, StartsNotBelow, Never, NeverLaw, RefusalKeeps, RefusalLaw, Change, OtherState, OnlyStates, StateLaw}
 use Rattle.boot.proofs.ChoiceLaws.{not-below, Sound, nothing, through, by-factory, found, choice-sound}

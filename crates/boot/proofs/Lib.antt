@@ -1,14 +1,11 @@
 pub mod Changes
 pub mod ChoiceLaws
 pub mod Examples
-pub mod FirstTests
 pub mod Laws
 pub mod Marking
-pub mod Order
 pub mod PowerCut
 pub mod Replies
 pub mod TestLaws
 pub mod ThroughRecords
-pub mod Tries
 pub mod TwoSectors
 pub mod WithoutRollback

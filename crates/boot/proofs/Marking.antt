@@ -17,7 +17,7 @@ use Rattle.otadata.specs.declared.Holder.{Holder}
 use Rattle.otadata.specs.declared.Holder.the-variants.{None, Sector}
 use Rattle.otadata.specs.Records.{stateWord}
 use Rattle.otadata.specs.Sectors.{sectorReading, restated}
-use Rattle.boot.specs.declared.Settings.{Settings}
+use Rattle.boot_choice.specs.declared.Settings.{Settings}
 use Rattle.boot.specs.Boot.{sectorAt, readingsOf, withState, inState, markedAt, marked, awaiting}
 use Rattle.boot.proofs.TwoSectors.{with-state-same, readings-at, readings-replaced}
 

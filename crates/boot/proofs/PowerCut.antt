@@ -20,14 +20,14 @@ use Rattle.otadata.proofs.Booleans.{true-is-not-false}
 use Rattle.otadata.proofs.ReadingLaw.{reading-law, after-size}
 use Rattle.partitions.specs.declared.App.the-variants.{OtaSlot}
 use Rattle.app_image.specs.declared.Facts.{Facts}
-use Rattle.boot.specs.declared.Settings.{Settings}
-use Rattle.boot.specs.declared.Passing.{Passing}
-use Rattle.boot.specs.declared.Passing.the-variants.{No, Yes}
-use Rattle.boot.specs.declared.Choice.the-variants.{Through}
+use Rattle.boot_choice.specs.declared.Settings.{Settings}
+use Rattle.boot_choice.specs.declared.Passing.{Passing}
+use Rattle.boot_choice.specs.declared.Passing.the-variants.{No, Yes}
+use Rattle.boot_choice.specs.declared.Choice.the-variants.{Through}
 use Rattle.boot.specs.declared.Start.{Start}
 use Rattle.boot.specs.declared.Reply.the-variants.{Starts}
-use Rattle.boot.specs.Acceptance.{Accepts}
-use Rattle.boot.specs.Choice.{passing, passed, namedSlot, choice}
+use Rattle.boot_choice.specs.Acceptance.{Accepts}
+use Rattle.boot_choice.specs.Choice.{passing, passed, namedSlot, choice}
 use Rattle.boot.specs.Boot.{sectorAt, marked, registerAfter, replyTo, boot}
 use Rattle.boot.specs.Laws.{NeverLaw}
 use Rattle.boot.specs.PowerCut.{otadataOf, Untouched, Prevails, StartsRecord, Demand3}

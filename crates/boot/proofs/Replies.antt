@@ -17,18 +17,18 @@ use Rattle.partitions.specs.declared.Listing.{Listing}
 use Rattle.partitions.specs.declared.Checked.{Checked}
 use Rattle.partitions.specs.declared.Checked.the-variants.{Refused as NotAccepted, Accepted}
 use Rattle.app_image.specs.declared.Facts.{Facts}
-use Rattle.boot.specs.declared.Settings.{Settings}
-use Rattle.boot.specs.declared.Choice.{Choice}
-use Rattle.boot.specs.declared.Choice.the-variants.{Nothing, Through, Factory, Found}
+use Rattle.boot_choice.specs.declared.Settings.{Settings}
+use Rattle.boot_choice.specs.declared.Choice.{Choice}
+use Rattle.boot_choice.specs.declared.Choice.the-variants.{Nothing, Through, Factory, Found}
 use Rattle.boot.specs.declared.Reply.{Reply}
 use Rattle.boot.specs.declared.Reply.the-variants.{Starts}
-use Rattle.boot.specs.Acceptance.{accepted, passedTests, Accepts}
-use Rattle.boot.specs.Choice.{choice}
+use Rattle.boot_choice.specs.Acceptance.{accepted, passedTests, Accepts}
+use Rattle.boot_choice.specs.Choice.{choice}
 use Rattle.boot.specs.Boot.{outcome, refused, readingsOf, marked, usedSector, awaiting, goodVerdict, anyGood, registerAfter, replyTo, fromMarks, byTests, boot}
 use Rattle.otadata.proofs.Booleans.{true-is-not-false}
 use Rattle.boot.proofs.ChoiceLaws.{Sound, nothing, through, by-factory, found, choice-sound}
 use Rattle.boot.proofs.TestLaws.{Tested, fails, passes, tests-decide}
-use Rattle.boot.proofs.Tries.{first-is-so, second-decides}
+use Rattle.boot_choice.proofs.Tries.{first-is-so, second-decides}
 use Rattle.boot.proofs.TwoSectors.{marked-size}
 
 -- ---- step 4

@@ -11,8 +11,8 @@ use Rattle.partitions.specs.declared.Listing.{Listing}
 use Rattle.partitions.specs.declared.Checked.{Checked}
 use Rattle.partitions.specs.declared.Checked.the-variants.{Refused, Accepted}
 use Rattle.partitions.specs.PartitionList.{right, checked}
-use Rattle.boot.specs.declared.Settings.{Settings}
-use Rattle.boot.specs.Acceptance.{refuseIf, contradictory, acceptedNode, accepted}
+use Rattle.boot_choice.specs.declared.Settings.{Settings}
+use Rattle.boot_choice.specs.Acceptance.{refuseIf, contradictory, acceptedNode, accepted}
 
 -- refused with a number below 4, or accepted, and then P holds
 pub data Tested (P : Type 0) : Checked → Type 0 where

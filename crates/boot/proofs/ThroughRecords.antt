@@ -17,11 +17,11 @@ use Rattle.otadata.specs.Sectors.{ofUsable, active}
 use Rattle.otadata.proofs.Booleans.{true-is-not-false}
 use Rattle.partitions.specs.declared.App.the-variants.{OtaSlot}
 use Rattle.app_image.specs.declared.Facts.{Facts}
-use Rattle.boot.specs.declared.Settings.{Settings}
-use Rattle.boot.specs.declared.Passing.{Passing}
-use Rattle.boot.specs.declared.Passing.the-variants.{No, Yes}
-use Rattle.boot.specs.declared.Choice.the-variants.{Nothing, Through}
-use Rattle.boot.specs.Choice.{passing, passed, namedSlot, throughRecord, throughRecords, choice}
+use Rattle.boot_choice.specs.declared.Settings.{Settings}
+use Rattle.boot_choice.specs.declared.Passing.{Passing}
+use Rattle.boot_choice.specs.declared.Passing.the-variants.{No, Yes}
+use Rattle.boot_choice.specs.declared.Choice.the-variants.{Nothing, Through}
+use Rattle.boot_choice.specs.Choice.{passing, passed, namedSlot, throughRecord, throughRecords, choice}
 use Rattle.boot.proofs.TwoSectors.{two}
 
 -- sector k holds a usable record of sequence q

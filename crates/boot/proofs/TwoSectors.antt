@@ -14,7 +14,7 @@ use Rattle.otadata.specs.declared.Verdict.the-variants.{None, Good}
 use Rattle.otadata.specs.declared.Reading.{Reading}
 use Rattle.otadata.specs.Sectors.{sectorReading, restated}
 use Rattle.otadata.proofs.Restating.{none-restated, restated-reading, restated-size}
-use Rattle.boot.specs.declared.Settings.{Settings}
+use Rattle.boot_choice.specs.declared.Settings.{Settings}
 use Rattle.boot.specs.Boot.{sectorAt, withSector, readingsOf, withState, inState, markedAt, marked}
 
 -- what holds of 0 and of 1 holds of every sector number

@@ -14,10 +14,10 @@ use Rattle.otadata.specs.declared.Holder.the-variants.{None, Sector}
 use Rattle.otadata.specs.Records.{usableState, usableVerdict, noReading}
 use Rattle.otadata.specs.Sectors.{sequenceIn, active}
 use Rattle.partitions.specs.PartitionList.{slotCount}
-use Rattle.boot.specs.declared.Settings.{Settings}
-use Rattle.boot.specs.declared.Choice.{Choice}
-use Rattle.boot.specs.declared.Choice.the-variants.{Nothing, Through, Factory, Found}
-use Rattle.boot.specs.Choice.{orElse, throughVerdict, throughRecord, throughHolder, throughRecords, verdictBars, barred, candidate, searchFrom, choice}
+use Rattle.boot_choice.specs.declared.Settings.{Settings}
+use Rattle.boot_choice.specs.declared.Choice.{Choice}
+use Rattle.boot_choice.specs.declared.Choice.the-variants.{Nothing, Through, Factory, Found}
+use Rattle.boot_choice.specs.Choice.{orElse, throughVerdict, throughRecord, throughHolder, throughRecords, verdictBars, barred, candidate, searchFrom, choice}
 use Rattle.boot.specs.Boot.{readingsOf, goodVerdict, anyGood, registerAfter, replyTo}
 use Rattle.boot.specs.Laws.{countedState, countedVerdict, counted, WithoutRollback}
 use Rattle.boot.proofs.Changes.{no-marks}

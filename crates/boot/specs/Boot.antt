@@ -19,13 +19,13 @@ use Rattle.partitions.specs.declared.App.{App}
 use Rattle.partitions.specs.declared.App.the-variants.{Factory as FactoryApp, OtaSlot}
 use Rattle.partitions.specs.declared.Checked.{Checked}
 use Rattle.partitions.specs.declared.Checked.the-variants.{Refused as NotAccepted, Accepted}
-use Rattle.boot.specs.declared.Settings.{Settings}
-use Rattle.boot.specs.declared.Choice.{Choice}
-use Rattle.boot.specs.declared.Choice.the-variants.{Nothing, Through, Factory, Found}
+use Rattle.boot_choice.specs.declared.Settings.{Settings}
+use Rattle.boot_choice.specs.declared.Choice.{Choice}
+use Rattle.boot_choice.specs.declared.Choice.the-variants.{Nothing, Through, Factory, Found}
 use Rattle.boot.specs.declared.Reply.{Reply}
 use Rattle.boot.specs.declared.Reply.the-variants.{Refused, Starts}
-use Rattle.boot.specs.Acceptance.{accepted}
-use Rattle.boot.specs.Choice.{ofEither, choice}
+use Rattle.boot_choice.specs.Acceptance.{accepted}
+use Rattle.boot_choice.specs.Choice.{ofEither, choice}
 
 -- ---- the reply
 

@@ -19,12 +19,12 @@ use Rattle.partitions.specs.declared.App.{App}
 use Rattle.app_image.specs.declared.Facts.{Facts}
 use Rattle.app_image.specs.declared.Checked.the-variants.{Accepted}
 use Rattle.app_image.specs.Check.{check}
-use Rattle.boot.specs.declared.Settings.{Settings}
+use Rattle.boot_choice.specs.declared.Settings.{Settings}
 use Rattle.boot.specs.declared.Refusal.{Refusal}
 use Rattle.boot.specs.declared.Start.{Start}
 use Rattle.boot.specs.declared.Reply.the-variants.{Refused, Starts}
-use Rattle.boot.specs.Acceptance.{Accepts}
-use Rattle.boot.specs.Choice.{image, choice}
+use Rattle.boot_choice.specs.Acceptance.{Accepts}
+use Rattle.boot_choice.specs.Choice.{image, choice}
 use Rattle.boot.specs.Boot.{Outcome, sectorAt, readingsOf, marked, replyTo, boot}
 
 -- ---- which app is started

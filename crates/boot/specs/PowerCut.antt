@@ -15,12 +15,12 @@ use Rattle.otadata.specs.Records.{usableState}
 use Rattle.otadata.specs.Sectors.{readsAs, sectorReading, active}
 use Rattle.otadata.specs.PowerCut.{Call, after, History}
 use Rattle.partitions.specs.declared.App.the-variants.{OtaSlot}
-use Rattle.boot.specs.declared.Settings.{Settings}
+use Rattle.boot_choice.specs.declared.Settings.{Settings}
 use Rattle.boot.specs.declared.Start.{Start}
 use Rattle.boot.specs.declared.Reply.{Reply}
 use Rattle.boot.specs.declared.Reply.the-variants.{Starts}
-use Rattle.boot.specs.Acceptance.{otadataSize, Accepts}
-use Rattle.boot.specs.Choice.{namedSlot, Passes}
+use Rattle.boot_choice.specs.Acceptance.{otadataSize, Accepts}
+use Rattle.boot_choice.specs.Choice.{namedSlot, Passes}
 use Rattle.boot.specs.Boot.{sectorAt, readingsOf, marked, boot}
 use Rattle.boot.specs.Laws.{Never}
 

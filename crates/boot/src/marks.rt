@@ -5,7 +5,7 @@ ghost use lib.ListN.{length};
 ghost use Rattle.otadata.specs.declared.Holder.the-variants.{Sector};
 ghost use Rattle.otadata.specs.Sectors.{sectorReading};
 ghost use Rattle.boot.specs.Boot.{sectorAt, readingsOf, withState, inState, markedAt, marked, awaiting};
-use crate::Settings;
+use boot_choice::Settings;
 use otadata::Holder;
 use otadata::Reading;
 use otadata::SECTOR_SIZE;

@@ -1,19 +1,19 @@
 // The boot call: tests 1 to 3, then the four steps, and the reply.
 ghost use mathlib.Core.Path.{_≡_};
 ghost use lib.ListN.{length};
-ghost use Rattle.boot.specs.declared.Choice.the-variants.{Found};
+ghost use Rattle.boot_choice.specs.declared.Choice.the-variants.{Found};
 ghost use Rattle.boot.specs.Boot.{outcome, marked, usedSector, goodVerdict, anyGood, registerAfter, replyTo, fromMarks, boot as Boot·boot};
-use crate::Choice;
 use crate::NOTHING_BOOTABLE;
 use crate::Refusal;
 use crate::Reply;
-use crate::Settings;
 use crate::Start;
-use crate::acceptance::accept;
-use crate::choosing::choose;
 use crate::marks::mark_aborted;
 use crate::marks::mark_pending;
 use app_image::Facts;
+use boot_choice::Choice;
+use boot_choice::Settings;
+use boot_choice::accept;
+use boot_choice::choose;
 use efuse::raise;
 use otadata::Holder;
 use otadata::Reading;

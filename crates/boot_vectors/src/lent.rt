@@ -1,5 +1,5 @@
 // What a case lends to boot: the settings, the words of the list, and the front of a buffer.
-use boot::Settings;
+use boot_choice::Settings;
 use vector_cases::byte;
 use vector_cases::least;
 use vector_cases::word;

@@ -1,0 +1,3 @@
+pub mod FirstTests
+pub mod Order
+pub mod Tries

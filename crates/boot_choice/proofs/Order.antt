@@ -1,0 +1,117 @@
+-- The order of the tries, as the code goes through them, and a list that is refused, of which nothing is chosen.
+-- Assumes nothing.
+use Prim.Native.Nat.{ℕ, zero, suc, _+_}
+use mathlib.Core.Path.{_≡_, _∙_, refl, sym, ap}
+use mathlib.Core.Bool.{Bool, true, false, cond}
+use mathlib.Core.List.{List, []}
+use native.Mathlib.Omega.{arith}
+use lib.Dec.{eqb}
+use lib.ListN.{length}
+use Rattle.otadata.specs.declared.Verdict.{Verdict}
+use Rattle.otadata.specs.declared.Verdict.the-variants.{None as NotGood, Good}
+use Rattle.otadata.specs.declared.Reading.{Reading}
+use Rattle.otadata.specs.declared.Holder.{Holder}
+use Rattle.otadata.specs.declared.Holder.the-variants.{None, Sector}
+use Rattle.otadata.specs.Records.{usable}
+use Rattle.otadata.specs.Sectors.{Part}
+use Rattle.partitions.specs.declared.App.{App}
+use Rattle.partitions.specs.declared.Listing.{Listing}
+use Rattle.partitions.specs.declared.Checked.{Checked}
+use Rattle.partitions.specs.declared.Checked.the-variants.{Refused, Accepted}
+use Rattle.partitions.specs.PartitionList.{factorySubtype, timesListed, slotCount, right, checked}
+use Rattle.partitions.proofs.Answers.{of-no-list}
+use Rattle.app_image.specs.Check.{lengthTest, check}
+use Rattle.boot_choice.specs.declared.Settings.{Settings}
+use Rattle.boot_choice.specs.declared.Passing.the-variants.{No}
+use Rattle.boot_choice.specs.declared.Choice.{Choice}
+use Rattle.boot_choice.specs.declared.Choice.the-variants.{Nothing}
+use Rattle.boot_choice.specs.Choice.{image, passing, chosen, throughVerdict, throughRecord, throughHolder, throughRecords, factory, barred, candidate, searchFrom, search, choice}
+
+-- ---- what an accepted list holds
+
+same-listing : (b : Bool) (l m : Listing) → cond {A = Checked} b (Accepted l) (Refused 1) ≡ Accepted m → l ≡ m
+same-listing true l m e = cc
+same-listing false l m e = absurd (let z : _≡_ {A = ℕ} 0 1 = cc in omega arith)
+
+module _ (list : List ℕ) (capacity : ℕ) (c : Checked) (found : c ≡ checked list capacity) (listing : Listing) (e : c ≡ Accepted listing) where
+  pub listed-slots : listing .slots ≡ slotCount list
+  unfolding checked
+  listed-slots = ap (λ (l : Listing). l .slots) (sym (same-listing (right list capacity) _ listing (sym found ∙ e)))
+
+  pub listed-factory : listing .factory ≡ eqb (timesListed list factorySubtype) 1
+  unfolding checked
+  listed-factory = ap (λ (l : Listing). l .factory) (sym (same-listing (right list capacity) _ listing (sym found ∙ e)))
+
+-- ---- a list that is refused
+
+refused-by : (b : Bool) (l : Listing) (number : ℕ) → cond {A = Checked} b (Accepted l) (Refused 1) ≡ Refused number → b ≡ false
+refused-by true l number e = absurd (let z : _≡_ {A = ℕ} 0 1 = cc in omega arith)
+refused-by false l number e = refl
+
+not-right : (list : List ℕ) (capacity number : ℕ) → checked list capacity ≡ Refused number → right list capacity ≡ false
+unfolding checked
+not-right list capacity number e = refused-by (right list capacity) _ number e
+
+either-way : {A : Type 0} (b : Bool) (x y z : A) → x ≡ z → y ≡ z → cond b x y ≡ z
+either-way true x y z e f = e
+either-way false x y z e f = f
+
+module _ (list flash : List ℕ) (settings : Settings) (wrong : right list (length flash) ≡ false) where
+  -- its apps have no image, so none passes
+  no-image : (app : App) → image list flash app ≡ []
+  no-image app = sym (ap (λ (p : Part). p .content) (of-no-list list (record { place = (0, 0); content = flash }) app (right list (length flash)) refl (simp wrong)))
+
+  none-passes : (app : App) → passing list flash settings app ≡ No
+  unfolding passing check lengthTest
+  none-passes app = simp (no-image app)
+
+  nothing-named : (k : ℕ) (v : Verdict) → throughVerdict list flash settings k v ≡ Nothing
+  nothing-named k NotGood = refl
+  nothing-named k (Good q state) = simp none-passes
+
+  nothing-through : (k : ℕ) (r : Reading) → throughRecord list flash settings k r ≡ Nothing
+  unfolding throughRecord
+  nothing-through k r = either-way (usable r) _ _ Nothing (nothing-named k (r .verdict)) refl
+
+  nothing-held : (rs : List Reading) (h : Holder) → throughHolder list flash settings rs h ≡ Nothing
+  nothing-held rs None = refl
+  nothing-held rs (Sector k) = simp nothing-through
+
+  nothing-listed : factory list flash settings ≡ Nothing
+  unfolding factory
+  nothing-listed = either-way (eqb (timesListed list factorySubtype) 1) _ _ Nothing (simp none-passes) refl
+
+  not-candidate : (rs : List Reading) (s : ℕ) → candidate list flash settings rs s ≡ No
+  unfolding candidate
+  not-candidate rs s = either-way (barred (slotCount list) rs s) _ _ No refl (none-passes _)
+
+  nothing-found : (rs : List Reading) (s k : ℕ) → searchFrom list flash settings rs s k ≡ Nothing
+  unfolding searchFrom
+  nothing-found rs s zero = refl
+  nothing-found rs s (suc k) = simp (not-candidate, nothing-found rs (s + 1) k)
+
+  nothing-chosen : (rs : List Reading) → choice list flash settings rs ≡ Nothing
+  unfolding choice throughRecords
+  nothing-chosen rs = simp (nothing-held, nothing-listed, nothing-found)
+
+pub list-refused : (list flash : List ℕ) (settings : Settings) (rs : List Reading) (c : Checked) → c ≡ checked list (length flash)
+    → (number : ℕ) → c ≡ Refused number → Nothing ≡ choice list flash settings rs
+list-refused list flash settings rs c found number e =
+    sym (nothing-chosen list flash settings (not-right list (length flash) number (sym found ∙ e)) rs)
+
+-- ---- the order
+
+module _ (list flash : List ℕ) (settings : Settings) (rs : List Reading) (first : Choice) (tried : first ≡ throughRecords list flash settings rs)
+    (t : Bool) (tested : t ≡ chosen first) where
+  pub record-chosen : t ≡ true → first ≡ choice list flash settings rs
+  unfolding choice
+  record-chosen y = simp (← tried, ← tested, y)
+
+  module _ (n : t ≡ false) (second : Choice) (listed : second ≡ factory list flash settings) (u : Bool) (asked : u ≡ chosen second) where
+    pub factory-chosen : u ≡ true → second ≡ choice list flash settings rs
+    unfolding choice
+    factory-chosen y = simp (← tried, ← tested, n, ← listed, ← asked, y)
+
+    pub search-decides : u ≡ false → (last : Choice) → last ≡ search list flash settings rs → last ≡ choice list flash settings rs
+    unfolding choice
+    search-decides f last e = e ∙ simp (← tried, ← tested, n, ← listed, ← asked, f)
