@@ -15,14 +15,15 @@ use Rattle.otadata.specs.Records.{namesSlot, noReading}
 use Rattle.otadata.specs.Sectors.{active}
 use Rattle.efuse.specs.Register.{setLowest, raised}
 use Rattle.partitions.specs.declared.App.the-variants.{Factory as FactoryApp, OtaSlot}
-use Rattle.partitions.specs.PartitionList.{factorySubtype, timesListed, slotCount}
+use Rattle.partitions.specs.PartitionList.{everyBelow, countBelow, factorySubtype, timesListed, slotCount, right, checked}
 use Rattle.app_image.specs.declared.Facts.{Facts}
 use Rattle.boot_choice.specs.declared.Settings.{Settings}
 use Rattle.boot_choice.specs.declared.Passing.the-variants.{No, Yes}
 use Rattle.boot_choice.specs.declared.Choice.the-variants.{Nothing, Through, Found}
 use Rattle.boot.specs.declared.Reply.the-variants.{Starts}
+use Rattle.boot_choice.specs.Acceptance.{acceptedNode, accepted}
 use Rattle.boot_choice.specs.Choice.{passing, Passes, throughRecord, throughRecords, factory, barred, candidate, searchFrom, choice}
-use Rattle.boot.specs.Boot.{view, refused, anyGood, registerAfter}
+use Rattle.boot.specs.Boot.{view, refused, anyGood, registerAfter, Accepts}
 use Rattle.boot.proofs.ThroughRecords.{passed-facts}
 
 abbrev pub slot1 : Slot
@@ -85,15 +86,21 @@ module _ (chip : ℕ) (facts : Facts) (v : facts .version .0 ≡ 4) where
   unfolding registerAfter anyGood noReading
   keeps = refl
 
--- the views of replies: nothing bootable, slot 1 through sector 0, and factory
-module _ (settings : Settings) (register : ℕ) where
-  pub nothing-bootable : view (refused settings 10) ≡ record { number = 10; values = 0 ∷ 0 ∷ 2 ∷ settings .efuse ∷ [] }
-  nothing-bootable = refl
+-- two slots of 4,096 bytes in a flash of 69,632: boot accepts, with both protections on
+pub accepts : (chip efuse : ℕ)
+    → Accepts (16 ∷ 0 ∷ 4096 ∷ 17 ∷ 65536 ∷ 4096 ∷ []) 69632 8192 (record { chip = chip; efuse = efuse; rollback = true; «anti_rollback» = true })
+unfolding accepted acceptedNode checked right everyBelow countBelow
+accepts chip efuse = refl
 
-  pub starts-slot : view (Starts (record { app = OtaSlot slot1; through = Sector 0; register = register }))
-      ≡ record { number = 0; values = 2 ∷ 1 ∷ 0 ∷ register ∷ [] }
-  starts-slot = refl
+-- the views of replies: a refusal, a slot through a sector, and factory
+module _ (settings : Settings) (number k register : ℕ) (slot : Slot) where
+  pub refused-view : view (refused settings number) ≡ record { number = number; values = 0 ∷ 0 ∷ 2 ∷ settings .efuse ∷ [] }
+  refused-view = refl
 
-  pub starts-factory : view (Starts (record { app = FactoryApp; through = None; register = register }))
+  pub slot-view : view (Starts (record { app = OtaSlot slot; through = Sector k; register = register }))
+      ≡ record { number = 0; values = 2 ∷ slot .0 ∷ k ∷ register ∷ [] }
+  slot-view = refl
+
+  pub factory-view : view (Starts (record { app = FactoryApp; through = None; register = register }))
       ≡ record { number = 0; values = 1 ∷ 0 ∷ 2 ∷ register ∷ [] }
-  starts-factory = refl
+  factory-view = refl

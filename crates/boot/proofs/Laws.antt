@@ -1,6 +1,6 @@
 -- What holds of every boot, on any bytes: which app is started, and what is changed.
 -- Assumes nothing.
-use Prim.Native.Nat.{ℕ, _<_}
+use Prim.Native.Nat.{ℕ, _<_, _≤_}
 use mathlib.Core.Path.{_≡_, _∙_, refl, sym, ap, subst}
 use mathlib.Core.Bool.{true, false}
 use mathlib.Core.List.{List}
@@ -9,6 +9,7 @@ use native.Mathlib.Omega.{arith}
 use lib.ListN.{length}
 use Rattle.otadata.specs.declared.State.{State}
 use Rattle.otadata.specs.declared.State.the-variants.{New, Pending, Aborted}
+use Rattle.otadata.specs.declared.Reading.{Reading}
 use Rattle.otadata.specs.declared.Holder.the-variants.{None, Sector}
 use Rattle.otadata.specs.Records.{usable, usableVerdict, noReading}
 use Rattle.otadata.specs.Sectors.{sectorReading}
@@ -18,15 +19,17 @@ use Rattle.app_image.specs.declared.Facts.{Facts}
 use Rattle.boot_choice.specs.declared.Settings.{Settings}
 use Rattle.boot_choice.specs.declared.Passing.the-variants.{Yes}
 use Rattle.boot_choice.specs.declared.Choice.{Choice}
+use Rattle.boot_choice.specs.declared.Choice.the-variants.{Nothing, Through, Factory, Found}
 use Rattle.boot.specs.declared.Start.{Start}
 use Rattle.boot.specs.declared.Refusal.{Refusal}
 use Rattle.boot.specs.declared.Reply.the-variants.{Refused, Starts}
-use Rattle.boot_choice.specs.Choice.{passing}
-use Rattle.boot.specs.Boot.{Outcome, outcome, readingsOf, marked, usedSector, awaiting, replyTo, fromMarks, byTests, refused, boot}
-use Rattle.boot.specs.Laws.{UsableAt, ThroughUsable, NotBelow, StartsNotBelow, Never, NeverLaw, RefusalKeeps, RefusalLaw, Change, OtherState, OnlyStates, StateLaw}
+use Rattle.boot_choice.specs.Choice.{passing, choice}
+use Rattle.boot.specs.Boot.{Outcome, outcome, readingsOf, marked, usedSector, awaiting, replyTo, fromMarks, byTests, refused, boot, passedTests, Accepts}
+use Rattle.boot.specs.Laws.{UsableAt, ThroughUsable, NotBelow, StartsNotBelow, Never, NeverLaw, AcceptanceLaw, RefusalKeeps, RefusalLaw, Change, OtherState, OnlyStates, StateLaw}
 use Rattle.boot.proofs.ChoiceLaws.{not-below, Sound, nothing, through, by-factory, found, choice-sound}
 use Rattle.boot.proofs.Changes.{Restates, KeptOr, marks, no-marks, awaits, awaiting-size, no-awaiting}
-use Rattle.boot.proofs.TestLaws.{Tested, fails, passes, tests-decide}
+use Rattle.boot.proofs.Replies.{afterMarks, replies}
+use Rattle.boot.proofs.TestLaws.{OneToThree, Tested, fails, passes, tests-decide}
 use Rattle.boot.proofs.TwoSectors.{readings-at, marked-size}
 
 -- ---- replies
@@ -58,7 +61,7 @@ module _ (list flash o : List ℕ) (settings : Settings) where
 
   -- what holds of each refusal of tests 1 to 3, and of each choice, holds of every boot
   every-boot : (P : Outcome → Type 0)
-      → ((number : ℕ) → number < 4 → P (outcome (refused settings number) o))
+      → ((number : ℕ) → OneToThree number → P (outcome (refused settings number) o))
       → (length o ≡ 8192 → (made : Choice) → SoundAfterMarks made → P (fromChoice settings o made))
       → P (boot list flash o settings)
   unfolding boot fromMarks
@@ -114,13 +117,35 @@ pub never-law : NeverLaw
 unfolding NeverLaw
 never-law list flash o settings =
     every-boot list flash o settings (Never list flash o settings)
-    (λ (number : ℕ) (l : number < 4).
+    (λ (number : ℕ) (l : OneToThree number).
     record {
       through-usable = λ (start : Start) (k : ℕ) e by. absurd (no-start e);
       not-below = λ (start : Start) e. absurd (no-start e);
     })
     (λ (size : length o ≡ 8192) (made : Choice) (m : SoundAfterMarks list flash o settings made).
     record { through-usable = through-usable list flash o settings size m; not-below = starts-not-below list flash o settings m })
+
+-- ---- when a boot is refused
+
+ten : (settings : Settings) (rs : List Reading) (made : Choice) (refusal : Refusal) → replyTo settings rs made ≡ Refused refusal → refusal .number ≡ 10
+ten settings rs Nothing refusal e = ap (λ (r : Refusal). r .number) (same-refusal (sym e))
+ten settings rs (Through k slot facts) refusal e = absurd (no-start (sym e))
+ten settings rs (Factory facts) refusal e = absurd (no-start (sym e))
+ten settings rs (Found slot facts) refusal e = absurd (no-start (sym e))
+
+not-accepted : (list flash o : List ℕ) (settings : Settings) {P : Type 0} {c : Checked} → Tested P c → (passedTests c ≡ true → ⊥)
+    → (refusal : Refusal) × ((byTests list flash o settings c .reply ≡ Refused refusal) × (1 ≤ refusal .number) × (refusal .number ≤ 3))
+not-accepted list flash o settings (fails {number = number} l) n = (record { number = number; register = settings .efuse }, (refl, l .0, l .1))
+not-accepted list flash o settings (passes p) n = absurd (n refl)
+
+pub acceptance-law : AcceptanceLaw
+unfolding AcceptanceLaw boot
+acceptance-law list flash o settings =
+    record {
+      accepting = λ (a : Accepts list (length flash) (length o) settings) (refusal : Refusal) (e : boot list flash o settings .reply ≡ Refused refusal).
+          ten settings (afterMarks settings o) (choice list flash settings (afterMarks settings o)) refusal (sym (replies list flash o settings a) ∙ e);
+      not-accepting = not-accepted list flash o settings (tests-decide list (length flash) (length o) settings);
+    }
 
 -- ---- what a refusal changes
 
@@ -145,12 +170,12 @@ unfolding RefusalLaw
 refusal-law list flash o settings refusal =
     every-boot list flash o settings
     (λ (out : Outcome). out .reply ≡ Refused refusal → RefusalKeeps o settings refusal (out .otadata))
-    (λ (number : ℕ) (l : number < 4) (e : refused settings number ≡ Refused refusal).
+    (λ (number : ℕ) (l : OneToThree number) (e : refused settings number ≡ Refused refusal).
     let same = same-refusal e in
     let n = ap (λ (r : Refusal). r .number) same in
     record {
       register = ap (λ (r : Refusal). r .register) (sym same);
-      marks = λ (is : refusal .number ≡ 10). absurd (omega arith);
+      marks = λ (is : refusal .number ≡ 10). absurd (omega (arith, l .1));
       nothing = λ (not : refusal .number ≡ 10 → ⊥). refl;
     })
     (λ (size : length o ≡ 8192) (made : Choice) (m : SoundAfterMarks list flash o settings made). nothing-chosen list flash o settings refusal m)
@@ -182,7 +207,7 @@ pub state-law : StateLaw
 unfolding StateLaw
 state-law list flash o settings =
     every-boot list flash o settings (λ (out : Outcome). OnlyStates o settings (out .otadata))
-    (λ (number : ℕ) (l : number < 4).
+    (λ (number : ℕ) (l : OneToThree number).
     record {
       size = refl;
       sectors = λ (k : ℕ) (below : k < 2). inl refl;

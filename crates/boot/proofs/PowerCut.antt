@@ -26,9 +26,8 @@ use Rattle.boot_choice.specs.declared.Passing.the-variants.{No, Yes}
 use Rattle.boot_choice.specs.declared.Choice.the-variants.{Through}
 use Rattle.boot.specs.declared.Start.{Start}
 use Rattle.boot.specs.declared.Reply.the-variants.{Starts}
-use Rattle.boot_choice.specs.Acceptance.{Accepts}
 use Rattle.boot_choice.specs.Choice.{passing, passed, namedSlot, choice}
-use Rattle.boot.specs.Boot.{sectorAt, marked, registerAfter, replyTo, boot}
+use Rattle.boot.specs.Boot.{sectorAt, marked, registerAfter, replyTo, boot, Accepts}
 use Rattle.boot.specs.Laws.{NeverLaw}
 use Rattle.boot.specs.PowerCut.{otadataOf, Untouched, Prevails, StartsRecord, Demand3}
 use Rattle.boot.proofs.Changes.{Restates, marks}

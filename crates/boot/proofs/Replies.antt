@@ -22,9 +22,9 @@ use Rattle.boot_choice.specs.declared.Choice.{Choice}
 use Rattle.boot_choice.specs.declared.Choice.the-variants.{Nothing, Through, Factory, Found}
 use Rattle.boot.specs.declared.Reply.{Reply}
 use Rattle.boot.specs.declared.Reply.the-variants.{Starts}
-use Rattle.boot_choice.specs.Acceptance.{accepted, passedTests, Accepts}
+use Rattle.boot_choice.specs.Acceptance.{accepted}
 use Rattle.boot_choice.specs.Choice.{choice}
-use Rattle.boot.specs.Boot.{outcome, refused, readingsOf, marked, usedSector, awaiting, goodVerdict, anyGood, registerAfter, replyTo, fromMarks, byTests, boot}
+use Rattle.boot.specs.Boot.{outcome, refused, readingsOf, marked, usedSector, awaiting, goodVerdict, anyGood, registerAfter, replyTo, fromMarks, byTests, boot, passedTests, Accepts}
 use Rattle.otadata.proofs.Booleans.{true-is-not-false}
 use Rattle.boot.proofs.ChoiceLaws.{Sound, nothing, through, by-factory, found, choice-sound}
 use Rattle.boot.proofs.TestLaws.{Tested, fails, passes, tests-decide}

@@ -1,6 +1,6 @@
 -- Tests 1 to 3: the number where one fails, and what is known where all pass.
 -- Assumes nothing.
-use Prim.Native.Nat.{ℕ, _<_}
+use Prim.Native.Nat.{ℕ, _≤_}
 use mathlib.Core.Path.{_≡_, refl}
 use mathlib.Core.Bool.{Bool, true, false, cond, not}
 use mathlib.Core.List.{List}
@@ -14,9 +14,13 @@ use Rattle.partitions.specs.PartitionList.{right, checked}
 use Rattle.boot_choice.specs.declared.Settings.{Settings}
 use Rattle.boot_choice.specs.Acceptance.{refuseIf, contradictory, acceptedNode, accepted}
 
--- refused with a number below 4, or accepted, and then P holds
+-- the number is one of tests 1 to 3
+abbrev pub OneToThree : ℕ → Type 0
+OneToThree number = (1 ≤ number) × (number ≤ 3)
+
+-- refused with such a number, or accepted, and then P holds
 pub data Tested (P : Type 0) : Checked → Type 0 where
-  fails : {number : ℕ} → number < 4 → Tested P (Refused number)
+  fails : {number : ℕ} → OneToThree number → Tested P (Refused number)
   passes : {listing : Listing} → P → Tested P (Accepted listing)
 
 either-way : {P : Type 0} {c d : Checked} (b : Bool) → Tested P c → (b ≡ false → Tested P d) → Tested P (cond b c d)
@@ -24,7 +28,7 @@ either-way true first second = first
 either-way false first second = second refl
 
 -- one more test
-refuse-if : {P Q : Type 0} (wrong : Listing → Bool) (number : ℕ) → number < 4 → ((listing : Listing) → wrong listing ≡ false → P → Q)
+refuse-if : {P Q : Type 0} (wrong : Listing → Bool) (number : ℕ) → OneToThree number → ((listing : Listing) → wrong listing ≡ false → P → Q)
     → {c : Checked} → Tested P c → Tested Q (refuseIf wrong number c)
 refuse-if wrong number l more (fails earlier) = fails earlier
 refuse-if wrong number l more (passes {listing = listing} p) =
@@ -33,12 +37,12 @@ refuse-if wrong number l more (passes {listing = listing} p) =
 module _ (list : List ℕ) (capacity size : ℕ) where
   list-tested : Tested Unit (checked list capacity)
   unfolding checked
-  list-tested = either-way (right list capacity) (passes tt) (λ (wrong : right list capacity ≡ false). fails (omega arith))
+  list-tested = either-way (right list capacity) (passes tt) (λ (wrong : right list capacity ≡ false). fails (omega arith, omega arith))
 
   node-tested : Tested (size ≡ 8192) (acceptedNode list capacity size)
   unfolding acceptedNode
   node-tested =
-      refuse-if (λ (listing : Listing). not (eqb size 8192)) 2 (omega arith)
+      refuse-if (λ (listing : Listing). not (eqb size 8192)) 2 (omega arith, omega arith)
       (λ (listing : Listing) (right : not (eqb size 8192) ≡ false) (p : Unit). eqb-true size 8192 (not-false (eqb size 8192) right))
       list-tested
 
@@ -46,6 +50,6 @@ module _ (list : List ℕ) (capacity size : ℕ) where
   pub tests-decide : (settings : Settings) → Tested (size ≡ 8192) (accepted list capacity size settings)
   unfolding accepted
   tests-decide settings =
-      refuse-if (contradictory settings) 3 (omega arith)
+      refuse-if (contradictory settings) 3 (omega arith, omega arith)
       (λ (listing : Listing) (right : contradictory settings listing ≡ false) (sized : size ≡ 8192). sized)
       node-tested

@@ -1,5 +1,6 @@
 -- The boot call: its four steps (step 2, the choice, is in Choice.antt), what it replies, and what it leaves of otadata.
 use Prim.Native.Nat.{ℕ, _*_}
+use mathlib.Core.Path.{_≡_}
 use mathlib.Core.Bool.{Bool, true, false, cond, not, _&&_}
 use mathlib.Core.List.{List, [], _∷_, _++_}
 use lib.Dec.{eqb}
@@ -149,3 +150,12 @@ byTests list flash o settings (Accepted listing) = fromMarks list flash settings
 -- document 01's boot, of a list, a flash, otadata and settings
 unfoldable pub boot : List ℕ → List ℕ → List ℕ → Settings → Outcome
 boot list flash o settings = byTests list flash o settings (accepted list (length flash) (length o) settings)
+
+-- ---- document 01's term: boot *accepts* where tests 1 to 3 pass
+
+abbrev pub passedTests : Checked → Bool
+passedTests (NotAccepted number) = false
+passedTests (Accepted listing) = true
+
+abbrev pub Accepts : List ℕ → ℕ → ℕ → Settings → Type 0
+Accepts list capacity size settings = passedTests (accepted list capacity size settings) ≡ true

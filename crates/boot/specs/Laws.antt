@@ -22,10 +22,10 @@ use Rattle.app_image.specs.Check.{check}
 use Rattle.boot_choice.specs.declared.Settings.{Settings}
 use Rattle.boot.specs.declared.Refusal.{Refusal}
 use Rattle.boot.specs.declared.Start.{Start}
+use Rattle.boot.specs.declared.Reply.{Reply}
 use Rattle.boot.specs.declared.Reply.the-variants.{Refused, Starts}
-use Rattle.boot_choice.specs.Acceptance.{Accepts}
 use Rattle.boot_choice.specs.Choice.{image, choice}
-use Rattle.boot.specs.Boot.{Outcome, sectorAt, readingsOf, marked, replyTo, boot}
+use Rattle.boot.specs.Boot.{Outcome, sectorAt, readingsOf, marked, replyTo, boot, Accepts}
 
 -- ---- which app is started
 
@@ -55,6 +55,18 @@ pub record Never (list flash o : List ℕ) (settings : Settings) (out : Outcome)
 
 unfoldable pub NeverLaw : Type 0
 NeverLaw = (list flash o : List ℕ) (settings : Settings) → Never list flash o settings (boot list flash o settings)
+
+-- ---- when a boot is refused
+
+-- where boot accepts, with 10 only; where it does not, with 1, 2 or 3
+pub record Refuses (accepts : Type 0) (r : Reply) : Type 0 where
+  pub accepting : accepts → (refusal : Refusal) → r ≡ Refused refusal → refusal .number ≡ 10
+  pub not-accepting : (accepts → ⊥) → (refusal : Refusal) × ((r ≡ Refused refusal) × (1 ≤ refusal .number) × (refusal .number ≤ 3))
+
+unfoldable pub AcceptanceLaw : Type 0
+AcceptanceLaw =
+    (list flash o : List ℕ) (settings : Settings)
+    → Refuses (Accepts list (length flash) (length o) settings) (boot list flash o settings .reply)
 
 -- ---- what a refusal changes
 

@@ -19,9 +19,9 @@ use Rattle.boot_choice.specs.declared.Settings.{Settings}
 use Rattle.boot.specs.declared.Start.{Start}
 use Rattle.boot.specs.declared.Reply.{Reply}
 use Rattle.boot.specs.declared.Reply.the-variants.{Starts}
-use Rattle.boot_choice.specs.Acceptance.{otadataSize, Accepts}
+use Rattle.boot_choice.specs.Acceptance.{otadataSize}
 use Rattle.boot_choice.specs.Choice.{namedSlot, Passes}
-use Rattle.boot.specs.Boot.{sectorAt, readingsOf, marked, boot}
+use Rattle.boot.specs.Boot.{sectorAt, readingsOf, marked, boot, Accepts}
 use Rattle.boot.specs.Laws.{Never}
 
 -- otadata with these bytes in sector p, 0 or 1, and those in the other one

@@ -1,7 +1,6 @@
 -- Tests 1 to 3 of document 01's table.
 use Prim.Native.Nat.{ℕ}
-use mathlib.Core.Path.{_≡_}
-use mathlib.Core.Bool.{Bool, true, false, cond, not, _&&_, _||_}
+use mathlib.Core.Bool.{Bool, cond, not, _&&_, _||_}
 use mathlib.Core.List.{List}
 use lib.Dec.{eqb}
 use Rattle.partitions.specs.declared.Listing.{Listing}
@@ -30,11 +29,3 @@ acceptedNode list capacity size = refuseIf (λ (listing : Listing). not (eqb siz
 -- and test 3, of the settings
 unfoldable pub accepted : List ℕ → ℕ → ℕ → Settings → Checked
 accepted list capacity size settings = refuseIf (contradictory settings) 3 (acceptedNode list capacity size)
-
--- document 01's term: boot *accepts* where tests 1 to 3 pass
-abbrev pub passedTests : Checked → Bool
-passedTests (Refused number) = false
-passedTests (Accepted listing) = true
-
-abbrev pub Accepts : List ℕ → ℕ → ℕ → Settings → Type 0
-Accepts list capacity size settings = passedTests (accepted list capacity size settings) ≡ true
