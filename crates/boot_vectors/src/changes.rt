@@ -2,13 +2,18 @@
 use vector_cases::byte;
 use vector_cases::least;
 use vector_cases::part;
+use vector_cases::patch;
 use vector_cases::word;
 
 // Changes what the case says.
 pub(crate) fn change(case: &[u8], listed: &mut [u8], flash: &mut [u8], otadata: &mut [u8]) {
     let kind = byte(case, 0);
     match kind {
-        1 => patch(flash, word(case, 4), part(case, 16, word(case, 8) as usize)),
+        1 => patch(
+            flash,
+            word(case, 4) as usize,
+            part(case, 16, word(case, 8) as usize),
+        ),
         2 => patch(listed, 0, case),
         3 | 5 => lay(case, otadata),
         4 => stores(
@@ -17,15 +22,6 @@ pub(crate) fn change(case: &[u8], listed: &mut [u8], flash: &mut [u8], otadata: 
             word(case, 8) as usize,
         ),
         _ => {}
-    }
-}
-
-// Puts bytes into a buffer from a place on, as far as it goes.
-fn patch(buffer: &mut [u8], at: u32, bytes: &[u8]) {
-    let start = least(at as usize, buffer.len());
-    let count = least(bytes.len(), buffer.len() - start);
-    for i in 0..count {
-        buffer[start + i] = bytes[i];
     }
 }
 

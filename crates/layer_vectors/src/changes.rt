@@ -2,6 +2,7 @@
 use vector_cases::byte;
 use vector_cases::least;
 use vector_cases::part;
+use vector_cases::patch;
 use vector_cases::word;
 
 // Changes the buffer where the case says so.
@@ -11,7 +12,7 @@ pub(crate) fn change(case: &[u8], buffer: &mut [u8]) {
         5 => fill(buffer, word(case, 4) as usize, word(case, 8) as usize),
         6 => patch(
             buffer,
-            word(case, 4),
+            word(case, 4) as usize,
             part(case, 16, word(case, 8) as usize),
         ),
         _ => {}
@@ -29,13 +30,4 @@ fn fill(buffer: &mut [u8], from: usize, to: usize) {
 // The byte of a place: it differs from unit to unit of 256 and of 65,536 bytes.
 fn filler(i: usize) -> u8 {
     ((i % 256 * 7 + i / 256 % 256 * 13 + i / 65536 % 256 * 29) % 256) as u8
-}
-
-// Puts bytes into the buffer from a place on, as far as it goes.
-fn patch(buffer: &mut [u8], at: u32, bytes: &[u8]) {
-    let start = least(at as usize, buffer.len());
-    let count = least(bytes.len(), buffer.len() - start);
-    for i in 0..count {
-        buffer[start + i] = bytes[i];
-    }
 }

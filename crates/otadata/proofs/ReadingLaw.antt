@@ -345,6 +345,14 @@ pub one-rewrite : (start rec : List ℕ) (k : ℕ)
 one-rewrite start rec k size of-bytes begins bytes-rec g l =
     record { size = size; of-bytes = of-bytes; begins = begins; each = ((bytes-rec, g, l), tt); ends = refl }
 
--- a finished rewrite is read as its record, whatever the sector held
-pub finished-reads : (s rec : List ℕ) → length s ≡ 4096 → bytes rec → good rec ≡ true → readsAs (cut rec 4128 s) ≡ rec
-finished-reads s rec size of-bytes g = step-new s rec 4128 size of-bytes g (omega arith) (omega arith) .reads .finished refl
+-- a finished rewrite leaves its record, whatever the sector held
+pub finished-record : (s rec : List ℕ) → length s ≡ 4096 → length rec ≡ 32 → recordIn (cut rec 4128 s) ≡ rec
+finished-record s rec size rec-size =
+    record-is (cut rec 4128 s) (cut-length s rec 4128 ∙ size) rec rec-size
+    (λ (j : ℕ) (l : j < 32). programmed rec s size 32 j (omega arith) l (omega arith))
+
+-- and is read as it
+pub finished-reads : (s rec : List ℕ) → length s ≡ 4096 → good rec ≡ true → readsAs (cut rec 4128 s) ≡ rec
+finished-reads s rec size g =
+    let same = finished-record s rec size (is-good rec g .size) in
+    reads-record (cut rec 4128 s) (ap good same ∙ g) ∙ same

@@ -20,10 +20,10 @@ use Rattle.otadata.specs.Sectors.{recordIn, sectorReading, cut, Reply, r
 use Rattle.otadata.proofs.Booleans.{true-is-not-false}
 use Rattle.otadata.proofs.Goodness.{is-good}
 use Rattle.otadata.proofs.Fields.{record-length, check-byte, label-field-length}
+use Rattle.otadata.proofs.ReadingLaw.{finished-record}
 use Rattle.otadata.proofs.RoundTrip.{word-of-bytes, made-sequence, made-state, made-label, read-good, reading-of-good}
-use Rattle.otadata.proofs.SectorReads.{no-record, record-is}
+use Rattle.otadata.proofs.SectorReads.{no-record}
 use Rattle.otadata.proofs.Stores.{right-sizes, cut-length}
-use Rattle.otadata.proofs.Cuts.{programmed}
 
 -- ---- the word of a state
 
@@ -99,12 +99,6 @@ sector-by false s g = absurd (true-is-not-false (good []) g no-record)
 pub sector-of-record : (s : List ℕ) → good (recordIn s) ≡ true → length s ≡ 4096
 unfolding recordIn
 sector-of-record s g = eqb-true _ _ (sector-by (eqb (length s) 4096) s g)
-
--- a finished rewrite leaves its record
-finished-record : (s rec : List ℕ) → length s ≡ 4096 → length rec ≡ 32 → recordIn (cut rec 4128 s) ≡ rec
-finished-record s rec size rec-size =
-    record-is (cut rec 4128 s) (cut-length s rec 4128 ∙ size) rec rec-size
-    (λ (j : ℕ) (l : j < 32). programmed rec s size 32 j (omega arith) l (omega arith))
 
 rewritten : (s rec : List ℕ) → length s ≡ 4096 → length rec ≡ 32 → rewrite s rec ≡ reply 0 (cut rec 4128 s)
 unfolding rewrite

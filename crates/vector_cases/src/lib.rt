@@ -1,7 +1,8 @@
-// Reading the bytes of a case. Every function takes any arguments: what is past the end counts as 0, or is left out.
+// The bytes of a case, read and put into a buffer. Every function takes any arguments: what is past the end counts as 0, or is left out.
 ghost use mathlib.Core.Path.{_≡_};
 ghost use Prim.Native.Nat.{min};
 ghost use lib.ListN.{getD, take, drop};
+ghost use Rattle.vector_cases.specs.Buffers.{patched};
 ghost use Rattle.otadata.specs.Words.{word as Words·word};
 
 // The lesser of two numbers.
@@ -38,4 +39,15 @@ pub fn part(bytes: &[u8], at: usize, n: usize) -> &[u8]
     let from = least(at, bytes.len());
     let size = least(n, bytes.len() - from);
     &bytes[from..from + size]
+}
+
+// Puts bytes into a buffer from `at` on, as far as it goes.
+pub fn patch(buffer: &mut [u8], at: usize, bytes: &[u8])
+    ensures { λ r. ⌜ now (buffer .exit) ≡ patched (now (buffer .entry)) at (now (bytes .entry)) ⌝ }
+{
+    let start = least(at, buffer.len());
+    let count = least(bytes.len(), buffer.len() - start);
+    for i in 0..count {
+        buffer[start + i] = bytes[i];
+    }
 }
