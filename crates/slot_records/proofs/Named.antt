@@ -1,0 +1,101 @@
+-- Which record names a slot, as the code decides it.
+-- Assumes nothing.
+use Prim.Native.Nat.{ℕ, _<_}
+use mathlib.Core.Path.{_≡_, _∙_, sym, ap}
+use mathlib.Core.Bool.{Bool, true, false, not}
+use mathlib.Core.List.{List}
+use native.Mathlib.Omega.{arith}
+use lib.Dec.{eqb, ltb}
+use lib.ListN.{length, getD}
+use borrow.Author.Tests.{not-true, not-false}
+use Rattle.otadata.specs.declared.Slot.{Slot}
+use Rattle.otadata.specs.declared.Sequence.{Sequence}
+use Rattle.otadata.specs.declared.State.{State}
+use Rattle.otadata.specs.declared.State.the-variants.{Pending}
+use Rattle.otadata.specs.declared.Verdict.the-variants.{Good}
+use Rattle.otadata.specs.declared.Reading.{Reading}
+use Rattle.otadata.specs.declared.Holder.{Holder}
+use Rattle.otadata.specs.declared.Holder.the-variants.{None, Sector}
+use Rattle.otadata.specs.Records.{stateWord, namesSlot, noReading}
+use Rattle.otadata.specs.Sectors.{sequenceIn, ofUsable, active}
+use Rattle.otadata.proofs.Activity.{default, active-below-two}
+use Rattle.slot_records.specs.Naming.{names, activeNaming, highestNaming, namingRecord, pendingVerdict, activePending}
+
+-- ---- one record
+
+pub slot-decides : (r : Reading) (q : Sequence) (state : State) → r .verdict ≡ Good q state
+    → (n s : ℕ) (slot : Slot) → slot .0 ≡ namesSlot n (q .0) → eqb (slot .0) s ≡ names n s (r .verdict)
+slot-decides r q state e n s slot named = simp (e, named)
+
+pub word-decides : (r : Reading) (q : Sequence) (state : State) → r .verdict ≡ Good q state
+    → (a : ℕ) → a ≡ stateWord state → (b : ℕ) → b ≡ stateWord Pending → eqb a b ≡ pendingVerdict (r .verdict)
+word-decides r q state e a ea b eb = simp (e, ea, eb)
+
+-- ---- of the records that count, the higher
+
+module _ (first second higher : Bool) (no : not second ≡ true) where
+  pub only-first : first ≡ true → Sector 0 ≡ ofUsable first second higher
+  only-first y = simp (not-true second no, y)
+
+  pub neither : first ≡ false → None ≡ ofUsable first second higher
+  neither n = simp (not-true second no, n)
+
+module _ (first second higher : Bool) (yes : not second ≡ false) where
+  pub only-second : not first ≡ true → Sector 1 ≡ ofUsable first second higher
+  only-second n = simp (not-false second yes, not-true first n)
+
+  module _ (too : not first ≡ false) where
+    pub second-higher : higher ≡ true → Sector 1 ≡ ofUsable first second higher
+    second-higher y = simp (not-false second yes, not-false first too, y)
+
+    pub first-higher : higher ≡ false → Sector 0 ≡ ofUsable first second higher
+    first-higher n = simp (not-false second yes, not-false first too, n)
+
+-- ---- both readings
+
+pub highest-names : (rs : List Reading) → length rs ≡ 2 → (d : Reading) (n s : ℕ)
+    → (a : ℕ) → a ≡ sequenceIn (getD rs 0 d .verdict) → (b : ℕ) → b ≡ sequenceIn (getD rs 1 d .verdict)
+    → (first : Bool) → first ≡ names n s (getD rs 0 d .verdict) → (second : Bool) → second ≡ names n s (getD rs 1 d .verdict)
+    → (h : Holder) → h ≡ ofUsable first second (ltb a b) → h ≡ highestNaming n s rs
+unfolding highestNaming
+highest-names rs size d n s a ea b eb first e0 second e1 h e =
+    e ∙ simp (e0, e1, ea, eb, default rs 0 d noReading (omega arith), default rs 1 d noReading (omega arith))
+
+module _ (rs : List Reading) (size : length rs ≡ 2) (h : Holder) (found : h ≡ active rs) where
+  pub one-of-two : (k : ℕ) → h ≡ Sector k → k < 2
+  one-of-two k e = active-below-two rs k (sym found ∙ e)
+
+  module _ (k : ℕ) (e : h ≡ Sector k) (d : Reading) where
+    pub at-active : getD rs k noReading ≡ getD rs k d
+    at-active = default rs k noReading d (omega (arith, one-of-two k e))
+
+  pub no-active-pending : h ≡ None → false ≡ activePending rs
+  unfolding activePending
+  no-active-pending e = simp (← found, e)
+
+  pub pending-decides : (k : ℕ) → h ≡ Sector k → (d : Reading) (t : Bool) → t ≡ pendingVerdict (getD rs k d .verdict) → t ≡ activePending rs
+  unfolding activePending
+  pending-decides k e d t tested = tested ∙ simp (← found, e, at-active k e d)
+
+  module _ (n s : ℕ) where
+    pub no-active-names : h ≡ None → None ≡ activeNaming n s rs
+    unfolding activeNaming
+    no-active-names e = simp (← found, e)
+
+    module _ (k : ℕ) (e : h ≡ Sector k) (d : Reading) (t : Bool) (tested : t ≡ names n s (getD rs k d .verdict)) where
+      pub active-names : t ≡ true → Sector k ≡ activeNaming n s rs
+      unfolding activeNaming
+      active-names y = simp (← found, e, at-active k e d, ← tested, y)
+
+      pub active-names-other : t ≡ false → None ≡ activeNaming n s rs
+      unfolding activeNaming
+      active-names-other f = simp (← found, e, at-active k e d, ← tested, f)
+
+module _ (rs : List Reading) (n s : ℕ) (h : Holder) (found : h ≡ activeNaming n s rs) where
+  pub by-active : (k : ℕ) → h ≡ Sector k → Sector k ≡ namingRecord n s rs
+  unfolding namingRecord
+  by-active k e = simp (← found, e)
+
+  pub by-highest : h ≡ None → (other : Holder) → other ≡ highestNaming n s rs → other ≡ namingRecord n s rs
+  unfolding namingRecord
+  by-highest e other is = is ∙ simp (← found, e)

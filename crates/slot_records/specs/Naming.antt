@@ -1,0 +1,57 @@
+-- Which records name a slot s, with n slots.
+use Prim.Native.Nat.{ℕ}
+use mathlib.Core.Bool.{Bool, false, cond}
+use mathlib.Core.List.{List}
+use lib.Dec.{eqb, ltb}
+use lib.ListN.{getD}
+use Rattle.otadata.specs.declared.State.the-variants.{Pending}
+use Rattle.otadata.specs.declared.Verdict.{Verdict}
+use Rattle.otadata.specs.declared.Verdict.the-variants.{None as NotGood, Good}
+use Rattle.otadata.specs.declared.Reading.{Reading}
+use Rattle.otadata.specs.declared.Holder.{Holder}
+use Rattle.otadata.specs.declared.Holder.the-variants.{None, Sector}
+use Rattle.otadata.specs.Records.{stateWord, namesSlot, noReading}
+use Rattle.otadata.specs.Sectors.{sequenceIn, ofUsable, active}
+
+-- the record is good and names slot s
+abbrev pub names : ℕ → ℕ → Verdict → Bool
+names n s NotGood = false
+names n s (Good q state) = eqb (namesSlot n (q .0)) s
+
+-- the sector, where its record names slot s
+abbrev pub ifNames : ℕ → ℕ → List Reading → Holder → Holder
+ifNames n s rs None = None
+ifNames n s rs (Sector k) = cond (names n s (getD rs k noReading .verdict)) (Sector k) None
+
+-- the sector of the active record, where that names slot s
+unfoldable pub activeNaming : ℕ → ℕ → List Reading → Holder
+activeNaming n s rs = ifNames n s rs (active rs)
+
+-- the sector of the good record of highest sequence that names slot s, sector 0 on a tie
+unfoldable pub highestNaming : ℕ → ℕ → List Reading → Holder
+highestNaming n s rs =
+    let first = getD rs 0 noReading .verdict in
+    let second = getD rs 1 noReading .verdict in
+    ofUsable (names n s first) (names n s second) (ltb (sequenceIn first) (sequenceIn second))
+
+-- the first sector of two that is there
+abbrev pub orHolder : Holder → Holder → Holder
+orHolder None other = other
+orHolder (Sector k) other = Sector k
+
+-- the active record if it names slot s, else the good record of highest sequence that names it
+unfoldable pub namingRecord : ℕ → ℕ → List Reading → Holder
+namingRecord n s rs = orHolder (activeNaming n s rs) (highestNaming n s rs)
+
+-- the record is good and pending
+abbrev pub pendingVerdict : Verdict → Bool
+pendingVerdict NotGood = false
+pendingVerdict (Good q state) = eqb (stateWord state) (stateWord Pending)
+
+abbrev pub pendingIn : List Reading → Holder → Bool
+pendingIn rs None = false
+pendingIn rs (Sector k) = pendingVerdict (getD rs k noReading .verdict)
+
+-- the active record is pending
+unfoldable pub activePending : List Reading → Bool
+activePending rs = pendingIn rs (active rs)

@@ -1,0 +1,108 @@
+// Which of the two records names a slot, with n slots.
+ghost use mathlib.Core.Path.{_≡_};
+ghost use Rattle.otadata.specs.Sectors.{ofUsable, sequenceIn};
+ghost use Rattle.slot_records.specs.Naming.{names as Naming·names, activeNaming, highestNaming, namingRecord, pendingVerdict, activePending};
+use otadata::Holder;
+use otadata::Reading;
+use otadata::Slot;
+use otadata::State;
+use otadata::Verdict;
+use otadata::active;
+
+// The sector of the active record, where that names the slot.
+pub fn active_naming(readings: [Reading; 2], n: u32, slot: Slot) -> Holder
+    ensures { λ r. ⌜ r ≡ activeNaming n (slot .0) readings ⌝ }
+{
+    let holder = active(readings);
+    let Holder::Sector(k) = holder else {
+        return Holder::None;
+    };
+    if names(readings[k], n, slot) {
+        return Holder::Sector(k);
+    }
+    Holder::None
+}
+
+// The sector of the active record if that names the slot, else of the good record of highest sequence that does.
+pub fn naming_record(readings: [Reading; 2], n: u32, slot: Slot) -> Holder
+    ensures { λ r. ⌜ r ≡ namingRecord n (slot .0) readings ⌝ }
+{
+    let holder = active_naming(readings, n, slot);
+    match holder {
+        Holder::None => highest_naming(readings, n, slot),
+        Holder::Sector(k) => Holder::Sector(k),
+    }
+}
+
+// Whether the active record is pending.
+pub fn active_pending(readings: [Reading; 2]) -> bool
+    ensures { λ r. ⌜ r ≡ activePending readings ⌝ }
+{
+    let holder = active(readings);
+    let Holder::Sector(k) = holder else {
+        return false;
+    };
+    pending(readings[k])
+}
+
+// The sector of the good record of highest sequence that names the slot, sector 0 on a tie.
+fn highest_naming(readings: [Reading; 2], n: u32, slot: Slot) -> Holder
+    ensures { λ r. ⌜ r ≡ highestNaming n (slot .0) readings ⌝ }
+{
+    let first = readings[0];
+    let second = readings[1];
+    let higher = sequence_of(first) < sequence_of(second);
+    higher_of(names(first, n, slot), names(second, n, slot), higher)
+}
+
+// Of the records that count, the one of higher sequence, sector 0 on a tie.
+fn higher_of(first: bool, second: bool, higher: bool) -> Holder
+    ensures { λ r. ⌜ r ≡ ofUsable first second higher ⌝ }
+{
+    if !second {
+        if first {
+            return Holder::Sector(0);
+        }
+        return Holder::None;
+    }
+    if !first {
+        return Holder::Sector(1);
+    }
+    if higher {
+        return Holder::Sector(1);
+    }
+    Holder::Sector(0)
+}
+
+// Whether the record is good and names the slot.
+fn names(reading: Reading, n: u32, slot: Slot) -> bool
+    ensures { λ r. ⌜ r ≡ Naming·names n (slot .0) (reading .verdict) ⌝ }
+{
+    let verdict = reading.verdict;
+    match verdict {
+        Verdict::None => false,
+        Verdict::Good(sequence, _) => sequence.slot(n).0 == slot.0,
+    }
+}
+
+// Whether the record is good and pending.
+fn pending(reading: Reading) -> bool
+    ensures { λ r. ⌜ r ≡ pendingVerdict (reading .verdict) ⌝ }
+{
+    let verdict = reading.verdict;
+    match verdict {
+        Verdict::None => false,
+        Verdict::Good(_, state) => state.word() == State::Pending.word(),
+    }
+}
+
+// The sequence of a good record, and 0 of none.
+pub(crate) fn sequence_of(reading: Reading) -> u32
+    ensures { λ r. ⌜ r ≡ sequenceIn (reading .verdict) ⌝ }
+{
+    let verdict = reading.verdict;
+    match verdict {
+        Verdict::None => 0,
+        Verdict::Good(sequence, _) => sequence.0,
+    }
+}
