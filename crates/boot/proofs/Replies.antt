@@ -27,7 +27,7 @@ use Rattle.boot_choice.specs.Choice.{choice}
 use Rattle.boot.specs.Boot.{outcome, refused, readingsOf, marked, usedSector, awaiting, goodVerdict, anyGood, registerAfter, replyTo, fromMarks, byTests, boot, passedTests, Accepts}
 use Rattle.otadata.proofs.Booleans.{true-is-not-false}
 use Rattle.boot.proofs.ChoiceLaws.{Sound, nothing, through, by-factory, found, choice-sound}
-use Rattle.boot.proofs.TestLaws.{Tested, fails, passes, tests-decide}
+use Rattle.boot.proofs.TestLaws.{tests-decide, where-accepted}
 use Rattle.boot_choice.proofs.Tries.{first-is-so, second-decides}
 use Rattle.boot.proofs.TwoSectors.{marked-size}
 
@@ -112,12 +112,8 @@ module _ (list flash o : List ℕ) (settings : Settings) (c : Checked) (is : c �
   unfolding boot
   tests-refuse number e = simp (← is, e)
 
-  size-by : {d : Checked} → Tested (length o ≡ 8192) d → (listing : Listing) → d ≡ Accepted listing → length o ≡ 8192
-  size-by (fails l) listing e = absurd (let z : _≡_ {A = ℕ} 0 1 = cc in omega arith)
-  size-by (passes size) listing e = size
-
   pub accepted-size : (listing : Listing) → c ≡ Accepted listing → length o ≡ 8192
-  accepted-size listing e = size-by (tests-decide list (length flash) (length o) settings) listing (sym is ∙ e)
+  accepted-size listing e = where-accepted (tests-decide list (length flash) (length o) settings) listing (sym is ∙ e)
 
   pub tests-pass : (listing : Listing) → c ≡ Accepted listing → (r : Reply) (left : List ℕ)
       → outcome r left ≡ fromMarks list flash settings (marked settings o) → outcome r left ≡ boot list flash o settings

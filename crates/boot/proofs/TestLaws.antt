@@ -23,6 +23,10 @@ pub data Tested (P : Type 0) : Checked → Type 0 where
   fails : {number : ℕ} → OneToThree number → Tested P (Refused number)
   passes : {listing : Listing} → P → Tested P (Accepted listing)
 
+pub where-accepted : {P : Type 0} {c : Checked} → Tested P c → (listing : Listing) → c ≡ Accepted listing → P
+where-accepted (fails l) listing e = absurd (let z : _≡_ {A = ℕ} 0 1 = cc in omega arith)
+where-accepted (passes p) listing e = p
+
 either-way : {P : Type 0} {c d : Checked} (b : Bool) → Tested P c → (b ≡ false → Tested P d) → Tested P (cond b c d)
 either-way true first second = first
 either-way false first second = second refl
@@ -39,7 +43,7 @@ module _ (list : List ℕ) (capacity size : ℕ) where
   unfolding checked
   list-tested = either-way (right list capacity) (passes tt) (λ (wrong : right list capacity ≡ false). fails (omega arith, omega arith))
 
-  node-tested : Tested (size ≡ 8192) (acceptedNode list capacity size)
+  pub node-tested : Tested (size ≡ 8192) (acceptedNode list capacity size)
   unfolding acceptedNode
   node-tested =
       refuse-if (λ (listing : Listing). not (eqb size 8192)) 2 (omega arith, omega arith)

@@ -63,7 +63,7 @@ same-image list flash app =
 
 module _ (list : List ℕ) (flash : Part) (settings : Settings) (app : App) (handed : Part) (by-list : handed ≡ appPart list flash app)
     (c : Checked) (found : c ≡ check (handed .content) (settings .chip)) where
-  checked-image : check (image list (flash .content) app) (settings .chip) ≡ c
+  pub checked-image : check (image list (flash .content) app) (settings .chip) ≡ c
   checked-image = sym (found ∙ ap (λ (p : Part). check (p .content) (settings .chip)) by-list ∙ ap (λ (s : List ℕ). check s (settings .chip)) (same-image list flash app))
 
   pub image-refused : (refusal : Refusal) → c ≡ Refused refusal → No ≡ passing list (flash .content) settings app

@@ -49,7 +49,7 @@ module _ (rs : List Reading) (size : length rs ≡ 2) (d : Reading) where
           sym (by-readings ∙ simp (← tested0, ← tested1, not-false t0 y0, not-false t1 y1, ← read0, ← read1, le-ltb _ _ l))
 
 -- there are two sectors
-by-usable : (first second higher : Bool) (k : ℕ) → ofUsable first second higher ≡ Sector k → k < 2
+pub by-usable : (first second higher : Bool) (k : ℕ) → ofUsable first second higher ≡ Sector k → k < 2
 by-usable false false higher k e = absurd (let z : _≡_ {A = ℕ} 0 1 = cc in omega arith)
 by-usable true false higher k e = let z : 0 ≡ k = cc in omega arith
 by-usable false true higher k e = let z : 1 ≡ k = cc in omega arith

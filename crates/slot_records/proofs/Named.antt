@@ -2,7 +2,7 @@
 -- Assumes nothing.
 use Prim.Native.Nat.{ℕ, _<_}
 use mathlib.Core.Path.{_≡_, _∙_, sym, ap}
-use mathlib.Core.Bool.{Bool, true, false, not}
+use mathlib.Core.Bool.{Bool, true, false, cond, not}
 use mathlib.Core.List.{List}
 use native.Mathlib.Omega.{arith}
 use lib.Dec.{eqb, ltb}
@@ -18,8 +18,8 @@ use Rattle.otadata.specs.declared.Holder.{Holder}
 use Rattle.otadata.specs.declared.Holder.the-variants.{None, Sector}
 use Rattle.otadata.specs.Records.{stateWord, namesSlot, noReading}
 use Rattle.otadata.specs.Sectors.{sequenceIn, ofUsable, active}
-use Rattle.otadata.proofs.Activity.{default, active-below-two}
-use Rattle.slot_records.specs.Naming.{names, activeNaming, highestNaming, namingRecord, pendingVerdict, activePending}
+use Rattle.otadata.proofs.Activity.{default, by-usable, active-below-two}
+use Rattle.slot_records.specs.Naming.{names, ifNames, activeNaming, highestNaming, orHolder, namingRecord, inState, activePending}
 
 -- ---- one record
 
@@ -27,9 +27,9 @@ pub slot-decides : (r : Reading) (q : Sequence) (state : State) → r .verdict �
     → (n s : ℕ) (slot : Slot) → slot .0 ≡ namesSlot n (q .0) → eqb (slot .0) s ≡ names n s (r .verdict)
 slot-decides r q state e n s slot named = simp (e, named)
 
-pub word-decides : (r : Reading) (q : Sequence) (state : State) → r .verdict ≡ Good q state
-    → (a : ℕ) → a ≡ stateWord state → (b : ℕ) → b ≡ stateWord Pending → eqb a b ≡ pendingVerdict (r .verdict)
-word-decides r q state e a ea b eb = simp (e, ea, eb)
+pub word-decides : (r : Reading) (q : Sequence) (its : State) → r .verdict ≡ Good q its
+    → (state : State) (a : ℕ) → a ≡ stateWord its → (b : ℕ) → b ≡ stateWord state → eqb a b ≡ inState state (r .verdict)
+word-decides r q its e state a ea b eb = simp (e, ea, eb)
 
 -- ---- of the records that count, the higher
 
@@ -73,7 +73,7 @@ module _ (rs : List Reading) (size : length rs ≡ 2) (h : Holder) (found : h �
   unfolding activePending
   no-active-pending e = simp (← found, e)
 
-  pub pending-decides : (k : ℕ) → h ≡ Sector k → (d : Reading) (t : Bool) → t ≡ pendingVerdict (getD rs k d .verdict) → t ≡ activePending rs
+  pub pending-decides : (k : ℕ) → h ≡ Sector k → (d : Reading) (t : Bool) → t ≡ inState Pending (getD rs k d .verdict) → t ≡ activePending rs
   unfolding activePending
   pending-decides k e d t tested = tested ∙ simp (← found, e, at-active k e d)
 
@@ -99,3 +99,36 @@ module _ (rs : List Reading) (n s : ℕ) (h : Holder) (found : h ≡ activeNamin
   pub by-highest : h ≡ None → (other : Holder) → other ≡ highestNaming n s rs → other ≡ namingRecord n s rs
   unfolding namingRecord
   by-highest e other is = is ∙ simp (← found, e)
+
+-- ---- a sector that is found is one of two
+
+by-name : (b : Bool) (j k : ℕ) → cond b (Sector j) None ≡ Sector k → Sector j ≡ Sector k
+by-name true j k e = e
+by-name false j k e = absurd (let z : _≡_ {A = ℕ} 0 1 = cc in omega arith)
+
+module _ (n s : ℕ) (rs : List Reading) where
+  if-names : (h : Holder) (k : ℕ) → ifNames n s rs h ≡ Sector k → h ≡ Sector k
+  if-names None k e = e
+  if-names (Sector j) k e = by-name (names n s (getD rs j noReading .verdict)) j k e
+
+  pub naming-is-active : (k : ℕ) → activeNaming n s rs ≡ Sector k → active rs ≡ Sector k
+  unfolding activeNaming
+  naming-is-active = if-names (active rs)
+
+  pub naming-below-two : (k : ℕ) → activeNaming n s rs ≡ Sector k → k < 2
+  naming-below-two k e = active-below-two rs k (naming-is-active k e)
+
+  highest-below-two : (k : ℕ) → highestNaming n s rs ≡ Sector k → k < 2
+  unfolding highestNaming
+  highest-below-two k e =
+      let first = getD rs 0 noReading .verdict in
+      let second = getD rs 1 noReading .verdict in
+      by-usable (names n s first) (names n s second) (ltb (sequenceIn first) (sequenceIn second)) k e
+
+  first-holder : (a b : Holder) (k : ℕ) → orHolder a b ≡ Sector k → (a ≡ Sector k → k < 2) → (b ≡ Sector k → k < 2) → k < 2
+  first-holder None b k e by-first by-second = by-second e
+  first-holder (Sector j) b k e by-first by-second = by-first e
+
+  pub record-below-two : (k : ℕ) → namingRecord n s rs ≡ Sector k → k < 2
+  unfolding namingRecord
+  record-below-two k e = first-holder (activeNaming n s rs) (highestNaming n s rs) k e (naming-below-two k) (highest-below-two k)

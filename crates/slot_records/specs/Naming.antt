@@ -4,6 +4,7 @@ use mathlib.Core.Bool.{Bool, false, cond}
 use mathlib.Core.List.{List}
 use lib.Dec.{eqb, ltb}
 use lib.ListN.{getD}
+use Rattle.otadata.specs.declared.State.{State}
 use Rattle.otadata.specs.declared.State.the-variants.{Pending}
 use Rattle.otadata.specs.declared.Verdict.{Verdict}
 use Rattle.otadata.specs.declared.Verdict.the-variants.{None as NotGood, Good}
@@ -43,14 +44,14 @@ orHolder (Sector k) other = Sector k
 unfoldable pub namingRecord : ℕ → ℕ → List Reading → Holder
 namingRecord n s rs = orHolder (activeNaming n s rs) (highestNaming n s rs)
 
--- the record is good and pending
-abbrev pub pendingVerdict : Verdict → Bool
-pendingVerdict NotGood = false
-pendingVerdict (Good q state) = eqb (stateWord state) (stateWord Pending)
+-- the record is good and in that state
+abbrev pub inState : State → Verdict → Bool
+inState state NotGood = false
+inState state (Good q its) = eqb (stateWord its) (stateWord state)
 
 abbrev pub pendingIn : List Reading → Holder → Bool
 pendingIn rs None = false
-pendingIn rs (Sector k) = pendingVerdict (getD rs k noReading .verdict)
+pendingIn rs (Sector k) = inState Pending (getD rs k noReading .verdict)
 
 -- the active record is pending
 unfoldable pub activePending : List Reading → Bool

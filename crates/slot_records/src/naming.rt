@@ -1,7 +1,7 @@
 // Which of the two records names a slot, with n slots.
 ghost use mathlib.Core.Path.{_≡_};
 ghost use Rattle.otadata.specs.Sectors.{ofUsable, sequenceIn};
-ghost use Rattle.slot_records.specs.Naming.{names as Naming·names, activeNaming, highestNaming, namingRecord, pendingVerdict, activePending};
+ghost use Rattle.slot_records.specs.Naming.{names as Naming·names, activeNaming, highestNaming, namingRecord, inState, activePending};
 use otadata::Holder;
 use otadata::Reading;
 use otadata::Slot;
@@ -42,7 +42,7 @@ pub fn active_pending(readings: [Reading; 2]) -> bool
     let Holder::Sector(k) = holder else {
         return false;
     };
-    pending(readings[k])
+    in_state(readings[k], State::Pending)
 }
 
 // The sector of the good record of highest sequence that names the slot, sector 0 on a tie.
@@ -85,14 +85,14 @@ fn names(reading: Reading, n: u32, slot: Slot) -> bool
     }
 }
 
-// Whether the record is good and pending.
-fn pending(reading: Reading) -> bool
-    ensures { λ r. ⌜ r ≡ pendingVerdict (reading .verdict) ⌝ }
+// Whether the record is good and in that state.
+pub fn in_state(reading: Reading, state: State) -> bool
+    ensures { λ r. ⌜ r ≡ inState state (reading .verdict) ⌝ }
 {
     let verdict = reading.verdict;
     match verdict {
         Verdict::None => false,
-        Verdict::Good(_, state) => state.word() == State::Pending.word(),
+        Verdict::Good(_, its) => its.word() == state.word(),
     }
 }
 

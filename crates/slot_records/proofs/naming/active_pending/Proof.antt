@@ -20,18 +20,18 @@ enum-told c = search needs
 returns : tie.Need-returns
 returns c = search no-active-pending
 
-mul-pending : tie.Need-mul-pending
-mul-pending c =
+mul-in-state : tie.Need-mul-in-state
+mul-in-state c =
     let told = c .before in
     omega (arith, active-below-two _ _ (sym (told .before .before .active .ensures) ∙ told .holder .given .1))
 
-array-copy-out-pending : tie.Need-array-copy-out-pending
-array-copy-out-pending c =
+array-copy-out-in-state : tie.Need-array-copy-out-in-state
+array-copy-out-in-state c =
     let told = c .before in
     omega (arith, active-below-two _ _ (sym (told .before .before .active .ensures) ∙ told .holder .given .1))
 
-pending-requires : tie.Need-pending-requires
-pending-requires c κs = search needs
+in-state-requires : tie.Need-in-state-requires
+in-state-requires c κs = search needs
 
 returns-2 : tie.Need-returns-2
 returns-2 c = search pending-decides
@@ -44,7 +44,7 @@ active-pending-spec =
     enum-known-holder
     enum-told
     returns
-    mul-pending
-    array-copy-out-pending
-    pending-requires
+    mul-in-state
+    array-copy-out-in-state
+    in-state-requires
     returns-2)

@@ -1,9 +1,9 @@
--- `slot_records::naming::pending` meets its contract.
+-- `slot_records::naming::in_state` meets its contract.
 -- Assumes nothing.
 use Rattle.slot_records.proofs.Named.{word-decides}
 use borrow.Author.Needs.{needs}
-use Rattle.slot_records.proofs.naming.pending.Statement.{statement}
-use Rattle.slot_records.proofs.naming.pending.Tie as tie
+use Rattle.slot_records.proofs.naming.in_state.Statement.{statement}
+use Rattle.slot_records.proofs.naming.in_state.Tie as tie
 
 enum-told : tie.Need-enum-told
 enum-told c = search needs
@@ -23,7 +23,7 @@ returns c = search needs
 returns-2 : tie.Need-returns-2
 returns-2 c = search word-decides
 
-pub pending-spec : {M : Type 1} → statement M
-pending-spec =
+pub in-state-spec : {M : Type 1} → statement M
+in-state-spec =
     tie.close
     (tie.spec enum-told enum-known-verdict word-requires word-requires-2 returns returns-2)

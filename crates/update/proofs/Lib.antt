@@ -1,0 +1,6 @@
+pub mod Fallback
+pub mod LentSectors
+pub mod MarkLaws
+pub mod QueryLaws
+pub mod SetLaws
+pub mod TestLaws

@@ -1,0 +1,119 @@
+-- The state query and the next update slot, as the code puts them together.
+-- Assumes nothing.
+use Prim.Native.Nat.{ℕ, _+_, _%_, _<_}
+use mathlib.Core.Path.{_≡_, _∙_, refl, sym, ap}
+use mathlib.Core.Bool.{Bool, true, false}
+use mathlib.Core.List.{List}
+use native.Mathlib.Omega.{arith}
+use lib.ListN.{length, getD}
+use Rattle.otadata.specs.declared.Slot.{Slot}
+use Rattle.otadata.specs.declared.Sequence.{Sequence}
+use Rattle.otadata.specs.declared.State.{State}
+use Rattle.otadata.specs.declared.Verdict.the-variants.{None as NotGood, Good}
+use Rattle.otadata.specs.declared.Reading.{Reading}
+use Rattle.otadata.specs.declared.Holder.{Holder}
+use Rattle.otadata.specs.declared.Holder.the-variants.{None, Sector}
+use Rattle.otadata.specs.Records.{noReading}
+use Rattle.otadata.proofs.Activity.{default}
+use Rattle.partitions.specs.declared.App.{App}
+use Rattle.partitions.specs.declared.App.the-variants.{Factory, OtaSlot}
+use Rattle.partitions.specs.declared.Listing.{Listing}
+use Rattle.partitions.specs.declared.Checked.{Checked}
+use Rattle.partitions.specs.declared.Checked.the-variants.{Refused as NotAccepted, Accepted}
+use Rattle.boot_choice.specs.declared.Settings.{Settings}
+use Rattle.boot_choice.specs.Acceptance.{acceptedNode, accepted}
+use Rattle.boot.specs.Boot.{readingsOf}
+use Rattle.boot.proofs.TestLaws.{node-tested, tests-decide, where-accepted}
+use Rattle.slot_records.specs.Naming.{namingRecord}
+use Rattle.slot_records.proofs.Named.{record-below-two}
+use Rattle.update.specs.declared.Queried.{Queried}
+use Rattle.update.specs.declared.Queried.the-variants.{Refused as NotFound, Found}
+use Rattle.update.specs.declared.NextSlot.{NextSlot}
+use Rattle.update.specs.declared.NextSlot.the-variants.{Refused as NoNext, Next}
+use Rattle.update.specs.Tests.{slotTest, runningTest, unconfirmed}
+use Rattle.update.specs.Queries.{stateNaming, stateQuery, Counted, slotAfter, nextOf, nextSlot}
+use Rattle.update.proofs.TestLaws.{below-count}
+
+-- ---- the state query
+
+module _ (n s : ℕ) (rs : List Reading) (size : length rs ≡ 2) (h : Holder) (found : h ≡ namingRecord n s rs) where
+  pub none-names : h ≡ None → NotFound 8 ≡ stateNaming n s rs
+  unfolding stateNaming
+  none-names e = simp (← found, e)
+
+  module _ (k : ℕ) (e : h ≡ Sector k) where
+    pub naming-sector : k < 2
+    naming-sector = record-below-two n s rs k (sym found ∙ e)
+
+    module _ (d : Reading) where
+      its-reading : getD rs k noReading ≡ getD rs k d
+      its-reading = default rs k noReading d (omega (arith, naming-sector))
+
+      pub no-state : getD rs k d .verdict ≡ NotGood → NotFound 8 ≡ stateNaming n s rs
+      unfolding stateNaming
+      no-state v = simp (← found, e, its-reading, v)
+
+      pub state-found : (q : Sequence) (state : State) → getD rs k d .verdict ≡ Good q state → Found state ≡ stateNaming n s rs
+      unfolding stateNaming
+      state-found q state v = simp (← found, e, its-reading, v)
+
+module _ (list : List ℕ) (capacity : ℕ) (o : List ℕ) (s : ℕ) (a : Checked) (node : a ≡ acceptedNode list capacity (length o))
+    (c : Checked) (is : c ≡ slotTest s a) where
+  by-tests : slotTest s (acceptedNode list capacity (length o)) ≡ c
+  by-tests = sym (is ∙ ap (slotTest s) node)
+
+  pub query-size : (listing : Listing) → c ≡ Accepted listing → length o ≡ 8192
+  query-size listing e =
+      where-accepted (node-tested list capacity (length o)) listing (sym node ∙ below-count s a listing (sym is ∙ e) .before)
+
+  pub query-refused : (number : ℕ) → c ≡ NotAccepted number → NotFound number ≡ stateQuery list capacity o s
+  unfolding stateQuery
+  query-refused number e = simp (by-tests, e)
+
+  pub query-accepted : (listing : Listing) → c ≡ Accepted listing → (rs : List Reading) → rs ≡ readingsOf o
+      → (r : Queried) → r ≡ stateNaming (listing .slots) s rs → r ≡ stateQuery list capacity o s
+  unfolding stateQuery
+  query-accepted listing e rs read r found = found ∙ simp (by-tests, e, read)
+
+-- ---- the next update slot
+
+pub slot-after : (n : ℕ) (running : App) (slot : Slot) → running ≡ OtaSlot slot → (slot .0 + 1) % n ≡ slotAfter n running
+slot-after n running slot e = simp e
+
+pub counted-slot : (n : ℕ) (running : App) → Counted n running → (slot : Slot) → running ≡ OtaSlot slot → slot .0 < n
+counted-slot n running counted slot e = rw e at counted
+
+module _ (n : ℕ) (settings : Settings) (running : App) (rs : List Reading) (t : Bool) (tested : t ≡ unconfirmed settings rs) where
+  pub next-unconfirmed : t ≡ true → NoNext 11 ≡ nextOf n settings running rs
+  unfolding nextOf
+  next-unconfirmed y = simp (← tested, y)
+
+  pub next-follows : t ≡ false → (s : ℕ) → s ≡ slotAfter n running → Next (record { 0 = s }) ≡ nextOf n settings running rs
+  unfolding nextOf
+  next-follows f s e = simp (← tested, f, e)
+
+running-counted : (running : App) (a : Checked) (listing : Listing) → runningTest running a ≡ Accepted listing
+    → (a ≡ Accepted listing) × Counted (listing .slots) running
+running-counted Factory a listing e = (e, tt)
+running-counted (OtaSlot s) a listing e = let b = below-count (s .0) a listing e in (b .before, b .below)
+
+module _ (list : List ℕ) (capacity : ℕ) (o : List ℕ) (settings : Settings) (running : App)
+    (a : Checked) (before : a ≡ accepted list capacity (length o) settings) (c : Checked) (is : c ≡ runningTest running a) where
+  all-tests : runningTest running (accepted list capacity (length o) settings) ≡ c
+  all-tests = sym (is ∙ ap (runningTest running) before)
+
+  module _ (listing : Listing) (e : c ≡ Accepted listing) where
+    pub next-size : length o ≡ 8192
+    next-size = where-accepted (tests-decide list capacity (length o) settings) listing (sym before ∙ running-counted running a listing (sym is ∙ e) .0)
+
+    pub next-counted : Counted (listing .slots) running
+    next-counted = running-counted running a listing (sym is ∙ e) .1
+
+  pub next-refused : (number : ℕ) → c ≡ NotAccepted number → NoNext number ≡ nextSlot list capacity o settings running
+  unfolding nextSlot
+  next-refused number e = simp (all-tests, e)
+
+  pub next-accepted : (listing : Listing) → c ≡ Accepted listing → (rs : List Reading) → rs ≡ readingsOf o
+      → (r : NextSlot) → r ≡ nextOf (listing .slots) settings running rs → r ≡ nextSlot list capacity o settings running
+  unfolding nextSlot
+  next-accepted listing e rs read r found = found ∙ simp (all-tests, e, read)

@@ -1,0 +1,109 @@
+-- The tests that several calls share, as the code decides them.
+-- Assumes nothing.
+use Prim.Native.Nat.{ℕ, _<_, _≤_}
+use mathlib.Core.Path.{_≡_, _∙_, refl, sym, ap, subst}
+use mathlib.Core.Bool.{Bool, true, false, cond, not}
+use mathlib.Core.List.{List}
+use native.Mathlib.Omega.{arith}
+use lib.Dec.{ltb}
+use lib.ListN.{length}
+use borrow.Author.Tests.{lt-ltb, le-ltb, ltb-true, not-true, not-false}
+use Rattle.otadata.specs.declared.Slot.{Slot}
+use Rattle.otadata.specs.declared.Reading.{Reading}
+use Rattle.otadata.specs.Sectors.{Part}
+use Rattle.partitions.specs.declared.App.{App}
+use Rattle.partitions.specs.declared.App.the-variants.{OtaSlot}
+use Rattle.partitions.specs.declared.Listing.{Listing}
+use Rattle.partitions.specs.declared.Checked.{Checked}
+use Rattle.partitions.specs.declared.Checked.the-variants.{Refused, Accepted}
+use Rattle.partitions.specs.PartitionList.{appPart}
+use Rattle.app_image.specs.declared.Facts.{Facts}
+use Rattle.app_image.specs.declared.Refusal.{Refusal as ImageRefusal}
+use Rattle.app_image.specs.declared.Checked.{Checked as ImageChecked}
+use Rattle.app_image.specs.declared.Checked.the-variants.{Refused as ImageRefused, Accepted as ImageAccepted}
+use Rattle.app_image.specs.Check.{check}
+use Rattle.boot_choice.specs.declared.Settings.{Settings}
+use Rattle.boot_choice.specs.Acceptance.{accepted}
+use Rattle.boot_choice.specs.Choice.{image, tooOld}
+use Rattle.boot_choice.proofs.Tries.{checked-image}
+use Rattle.slot_records.specs.Naming.{activePending}
+use Rattle.update.specs.declared.Refusal.{Refusal}
+use Rattle.update.specs.declared.Examined.the-variants.{Unfit, Fit}
+use Rattle.update.specs.Replies.{noImage, refusalOf, refusal, imageRefusal}
+use Rattle.update.specs.Tests.{slotTest, runningTest, acceptedSlot, examined, unconfirmed}
+
+pub no-image-refused : (settings : Settings) (number : ℕ) (i : ImageRefusal) → i ≡ noImage
+    → _≡_ {A = Refusal} (record { number = number; image = i; register = settings .efuse }) (refusal settings number)
+no-image-refused settings number i e = simp e
+
+-- ---- 4
+
+module _ (s : ℕ) (c : Checked) where
+  pub refused-before : (number : ℕ) → c ≡ Refused number → c ≡ slotTest s c
+  unfolding slotTest
+  refused-before number e = e ∙ simp e
+
+  module _ (listing : Listing) (e : c ≡ Accepted listing) where
+    pub no-such-slot : listing .slots ≤ s → Refused 4 ≡ slotTest s c
+    unfolding slotTest
+    no-such-slot l = simp (e, le-ltb _ _ l)
+
+    pub such-a-slot : s < listing .slots → Accepted listing ≡ slotTest s c
+    unfolding slotTest
+    such-a-slot l = simp (e, lt-ltb _ _ l)
+
+-- what is known where test 4 passes
+pub record BelowCount (s : ℕ) (c : Checked) (listing : Listing) : Type 0 where
+  pub before : c ≡ Accepted listing
+  pub below : s < listing .slots
+
+below-by : (b : Bool) (s : ℕ) (d listing : Listing) → ltb s (d .slots) ≡ b → cond (not b) (Refused 4) (Accepted d) ≡ Accepted listing
+    → BelowCount s (Accepted d) listing
+below-by true s d listing l e =
+    let same : d ≡ listing = cc in
+    record { before = e; below = subst (λ (x : Listing). s < x .slots) same (ltb-true s (d .slots) l) }
+below-by false s d listing l e = absurd (let z : _≡_ {A = ℕ} 0 1 = cc in omega arith)
+
+pub below-count : (s : ℕ) (c : Checked) (listing : Listing) → slotTest s c ≡ Accepted listing → BelowCount s c listing
+unfolding slotTest
+below-count s (Refused number) listing e = absurd (let z : _≡_ {A = ℕ} 0 1 = cc in omega arith)
+below-count s (Accepted d) listing e = below-by (ltb s (d .slots)) s d listing refl e
+
+pub running-slot : (c : Checked) (running : App) (slot : Slot) → running ≡ OtaSlot slot → (r : Checked) → r ≡ slotTest (slot .0) c → r ≡ runningTest running c
+running-slot c running slot e r is = is ∙ simp e
+
+pub four-tests : (list : List ℕ) (capacity size : ℕ) (settings : Settings) (s : ℕ) (a : Checked) → a ≡ accepted list capacity size settings
+    → (r : Checked) → r ≡ slotTest s a → r ≡ acceptedSlot list capacity size settings s
+four-tests list capacity size settings s a before r is = is ∙ ap (slotTest s) before
+
+-- ---- 5 and 6
+
+module _ (list : List ℕ) (flash : Part) (settings : Settings) (slot : Slot) (handed : Part) (by-list : handed ≡ appPart list flash (OtaSlot slot))
+    (c : ImageChecked) (found : c ≡ check (handed .content) (settings .chip)) where
+  its-check : check (image list (flash .content) (OtaSlot slot)) (settings .chip) ≡ c
+  its-check = checked-image list flash settings (OtaSlot slot) handed by-list c found
+
+  pub image-unfit : (why : ImageRefusal) → c ≡ ImageRefused why → (own : ImageRefusal) → own ≡ refusalOf c
+      → Unfit (imageRefusal settings own) ≡ examined list (flash .content) settings slot
+  unfolding examined
+  image-unfit why e own is = simp (its-check, is, e)
+
+  module _ (facts : Facts) (e : c ≡ ImageAccepted facts) (t : Bool) (tested : t ≡ tooOld settings (facts .version .0)) where
+    pub version-unfit : t ≡ true → (why : Refusal) → why ≡ refusal settings 6 → Unfit why ≡ examined list (flash .content) settings slot
+    unfolding examined
+    version-unfit y why is = simp (its-check, e, ← tested, y, is)
+
+    pub app-fit : t ≡ false → Fit facts ≡ examined list (flash .content) settings slot
+    unfolding examined
+    app-fit n = simp (its-check, e, ← tested, n)
+
+-- ---- 11
+
+module _ (settings : Settings) (rs : List Reading) where
+  pub none-unconfirmed : not (settings .rollback) ≡ true → false ≡ unconfirmed settings rs
+  unfolding unconfirmed
+  none-unconfirmed n = simp (not-true (settings .rollback) n)
+
+  pub pending-unconfirmed : not (settings .rollback) ≡ false → (t : Bool) → t ≡ activePending rs → t ≡ unconfirmed settings rs
+  unfolding unconfirmed
+  pending-unconfirmed on t tested = tested ∙ simp (not-false (settings .rollback) on)

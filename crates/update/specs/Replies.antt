@@ -1,0 +1,65 @@
+-- What the calls reply, in document 01's numbers and values.
+use Prim.Native.Nat.{ℕ}
+use mathlib.Core.List.{List, [], _∷_}
+use Rattle.otadata.specs.Answers.{Answer}
+use Rattle.otadata.specs.Records.{stateWord}
+use Rattle.app_image.specs.declared.Refusal.{Refusal as ImageRefusal}
+use Rattle.app_image.specs.declared.Checked.{Checked as ImageChecked}
+use Rattle.app_image.specs.declared.Checked.the-variants.{Refused as NotAccepted, Accepted}
+use Rattle.boot_choice.specs.declared.Settings.{Settings}
+use Rattle.update.specs.declared.Refusal.{Refusal}
+use Rattle.update.specs.declared.Reply.{Reply}
+use Rattle.update.specs.declared.Reply.the-variants.{Refused, Done}
+use Rattle.update.specs.declared.Queried.{Queried}
+use Rattle.update.specs.declared.Queried.the-variants.{Refused as NotFound, Found}
+use Rattle.update.specs.declared.NextSlot.{NextSlot}
+use Rattle.update.specs.declared.NextSlot.the-variants.{Refused as NoNext, Next}
+
+-- ---- the views: document 01's number, 0 where done, and the values
+
+-- the register, then the image's number and place of a refusal with 5
+abbrev pub view : Reply → Answer
+view (Refused refusal) =
+    record { number = refusal .number; values = refusal .register ∷ refusal .image .number ∷ refusal .image .place ∷ [] }
+view (Done completion) = record { number = 0; values = completion .register ∷ 0 ∷ 0 ∷ [] }
+
+-- the word of the state
+abbrev pub queryView : Queried → Answer
+queryView (NotFound number) = record { number = number; values = [] }
+queryView (Found state) = record { number = 0; values = stateWord state ∷ [] }
+
+-- the slot
+abbrev pub nextView : NextSlot → Answer
+nextView (NoNext number) = record { number = number; values = [] }
+nextView (Next slot) = record { number = 0; values = slot .0 ∷ [] }
+
+-- ---- the replies of set-boot and of the marks; a refusal returns the register as given
+
+abbrev pub noImage : ImageRefusal
+noImage = record { number = 0; place = 0 }
+
+-- an image's own refusal, zero of an accepted one
+abbrev pub refusalOf : ImageChecked → ImageRefusal
+refusalOf (NotAccepted image) = image
+refusalOf (Accepted facts) = noImage
+
+abbrev pub refusal : Settings → ℕ → Refusal
+refusal settings number = record { number = number; image = noImage; register = settings .efuse }
+
+-- 5, with the number and the place of the image's own refusal
+abbrev pub imageRefusal : Settings → ImageRefusal → Refusal
+imageRefusal settings image = record { number = 5; image = image; register = settings .efuse }
+
+abbrev pub refused : Settings → ℕ → Reply
+refused settings number = Refused (refusal settings number)
+
+abbrev pub done : ℕ → Reply
+done register = Done (record { register = register })
+
+-- what a call replies, and the otadata that it leaves
+pub record Outcome : Type 0 where
+  pub reply : Reply
+  pub otadata : List ℕ
+
+abbrev pub outcome : Reply → List ℕ → Outcome
+outcome r o = record { reply = r; otadata = o }

@@ -1,0 +1,51 @@
+-- The tests that several calls share, in the order of document 01's table: 4, 5 and 6, 11.
+use Prim.Native.Nat.{ℕ}
+use mathlib.Core.Bool.{Bool, cond, not, _&&_}
+use mathlib.Core.List.{List}
+use lib.Dec.{ltb}
+use Rattle.otadata.specs.declared.Slot.{Slot}
+use Rattle.otadata.specs.declared.Reading.{Reading}
+use Rattle.partitions.specs.declared.App.{App}
+use Rattle.partitions.specs.declared.App.the-variants.{Factory, OtaSlot}
+use Rattle.partitions.specs.declared.Listing.{Listing}
+use Rattle.partitions.specs.declared.Checked.{Checked}
+use Rattle.app_image.specs.declared.Checked.{Checked as ImageChecked}
+use Rattle.app_image.specs.declared.Checked.the-variants.{Refused as ImageRefused, Accepted as ImageAccepted}
+use Rattle.app_image.specs.Check.{check}
+use Rattle.boot_choice.specs.declared.Settings.{Settings}
+use Rattle.boot_choice.specs.Acceptance.{refuseIf, accepted}
+use Rattle.boot_choice.specs.Choice.{image, tooOld}
+use Rattle.slot_records.specs.Naming.{activePending}
+use Rattle.update.specs.declared.Examined.{Examined}
+use Rattle.update.specs.declared.Examined.the-variants.{Unfit, Fit}
+use Rattle.update.specs.Replies.{refusal, imageRefusal}
+
+-- 4: the slot is not below n
+abbrev pub notBelow : ℕ → Listing → Bool
+notBelow s listing = not (ltb s (listing .slots))
+
+-- of what the tests before it left
+unfoldable pub slotTest : ℕ → Checked → Checked
+slotTest s earlier = refuseIf (notBelow s) 4 earlier
+
+-- 4 of a running app: factory has no slot
+abbrev pub runningTest : App → Checked → Checked
+runningTest Factory earlier = earlier
+runningTest (OtaSlot s) earlier = slotTest (s .0) earlier
+
+-- 1 to 4, of the calls with settings and a slot
+abbrev pub acceptedSlot : List ℕ → ℕ → ℕ → Settings → ℕ → Checked
+acceptedSlot list capacity size settings s = slotTest s (accepted list capacity size settings)
+
+-- 5, with the image's own refusal, then 6
+abbrev pub held : Settings → ImageChecked → Examined
+held settings (ImageRefused image) = Unfit (imageRefusal settings image)
+held settings (ImageAccepted facts) = cond (tooOld settings (facts .version .0)) (Unfit (refusal settings 6)) (Fit facts)
+
+-- 5 and 6, of the app of a slot
+unfoldable pub examined : List ℕ → List ℕ → Settings → Slot → Examined
+examined list flash settings s = held settings (check (image list flash (OtaSlot s)) (settings .chip))
+
+-- 11: the active record is pending, with rollback on
+unfoldable pub unconfirmed : Settings → List Reading → Bool
+unconfirmed settings rs = settings .rollback && activePending rs

@@ -1,0 +1,131 @@
+// Set-boot: the record that names a slot goes into the sector that is not active.
+ghost use mathlib.Core.Path.{_≡_};
+ghost use Prim.Native.Nat.{ℕ, _<_};
+ghost use lib.ListN.{length};
+ghost use Rattle.otadata.specs.declared.Sequence.{Sequence};
+ghost use Rattle.update.specs.Replies.{done, outcome};
+ghost use Rattle.update.specs.Tests.{examined};
+ghost use Rattle.update.specs.SetBoot.{newRecord, newState, placedAt, pointed, afterImage, setBoot};
+ghost use Rattle.slot_records.specs.declared.Placement.the-variants.{At};
+use crate::Completion;
+use crate::Examined;
+use crate::Reply;
+use crate::SEQUENCE_TOO_HIGH;
+use crate::UNCONFIRMED;
+use crate::lending::read_both;
+use crate::lending::rewrite_at;
+use crate::testing::accept_slot;
+use crate::testing::examine;
+use crate::testing::refusal;
+use crate::testing::unconfirmed;
+use boot_choice::Settings;
+use otadata::Holder;
+use otadata::Sequence;
+use otadata::Slot;
+use otadata::State;
+use otadata::make;
+use partitions::Checked;
+use slot_records::Placement;
+use slot_records::active_naming;
+use slot_records::place_new;
+
+// Has the next boot try the slot first.
+pub fn set_boot(
+    list: &[u32],
+    flash: &[u8],
+    otadata: &mut [u8],
+    settings: Settings,
+    slot: Slot,
+) -> Reply
+    ensures { λ r. ⌜ outcome r (now (otadata .exit)) ≡ setBoot (now (list .entry)) (now (flash .entry)) (now (otadata .entry)) settings slot ⌝ }
+{
+    let checked = accept_slot(list, flash.len(), otadata.len(), settings, slot);
+    match checked {
+        Checked::Refused(number) => Reply::Refused(refusal(settings, number)),
+        Checked::Accepted(listing) => set_listed(
+            list,
+            flash,
+            otadata,
+            settings,
+            slot,
+            listing.slots,
+        ),
+    }
+}
+
+// Tests 5 and 6, and what follows them, with n slots.
+fn set_listed(
+    list: &[u32],
+    flash: &[u8],
+    otadata: &mut [u8],
+    settings: Settings,
+    slot: Slot,
+    n: u32,
+) -> Reply
+    requires { ⌜ length (now otadata) ≡ 8192 ⌝ }
+    ensures { λ r. ⌜ outcome r (now (otadata .exit)) ≡ afterImage settings (now (otadata .entry)) (examined (now (list .entry)) (now (flash .entry)) settings slot) (pointed n (slot .0) settings (now (otadata .entry))) ⌝ }
+{
+    let tested = examine(list, flash, settings, slot);
+    match tested {
+        Examined::Unfit(why) => Reply::Refused(why),
+        Examined::Fit(_) => point_to(otadata, settings, slot, n),
+    }
+}
+
+// Test 11, and what follows it, with n slots. Nothing is written where the active record names the slot already.
+fn point_to(otadata: &mut [u8], settings: Settings, slot: Slot, n: u32) -> Reply
+    requires { ⌜ length (now otadata) ≡ 8192 ⌝ }
+    ensures { λ r. ⌜ outcome r (now (otadata .exit)) ≡ pointed n (slot .0) settings (now (otadata .entry)) ⌝ }
+{
+    let readings = read_both(otadata);
+    if unconfirmed(settings, readings) {
+        return Reply::Refused(refusal(settings, UNCONFIRMED));
+    }
+    let holder = active_naming(readings, n, slot);
+    match holder {
+        Holder::Sector(_) => unchanged(settings),
+        Holder::None => write_new(otadata, settings, place_new(readings, n, slot)),
+    }
+}
+
+// Test 7, then the rewrite with the new record.
+fn write_new(otadata: &mut [u8], settings: Settings, place: Placement) -> Reply
+    requires { ⌜ (length (now otadata) ≡ 8192) × ((k : ℕ) (q : Sequence) → place ≡ At k q → k < 2) ⌝ }
+    ensures { λ r. ⌜ outcome r (now (otadata .exit)) ≡ placedAt settings (now (otadata .entry)) place ⌝ }
+{
+    match place {
+        Placement::Nowhere => Reply::Refused(refusal(settings, SEQUENCE_TOO_HIGH)),
+        Placement::At(k, sequence) => {
+            rewrite_at(otadata, k, new_record(settings, sequence));
+            unchanged(settings)
+        }
+    }
+}
+
+// Done, with the register as given.
+fn unchanged(settings: Settings) -> Reply
+    ensures { λ r. ⌜ r ≡ done (settings .efuse) ⌝ }
+{
+    Reply::Done(Completion {
+        register: settings.efuse,
+    })
+}
+
+// The record of set-boot: its label is 20 bytes 0xFF.
+fn new_record(settings: Settings, sequence: Sequence) -> [u8; 32]
+    ensures { λ r. ⌜ r ≡ newRecord settings sequence ⌝ }
+{
+    let state = new_state(settings);
+    let made = make(sequence, [0xFF; 20], state.word());
+    made.rec
+}
+
+// Its state.
+fn new_state(settings: Settings) -> State
+    ensures { λ r. ⌜ r ≡ newState settings ⌝ }
+{
+    if settings.rollback {
+        return State::New;
+    }
+    State::Undefined
+}
