@@ -1,0 +1,726 @@
+//! Makes the cases: plain ones for examples, and random ones, good and damaged, in which every refusal comes up.
+
+use crate::ffi;
+use crate::image::*;
+use crate::partition::FLASH_MAX;
+use crate::record::{raw_bytes, State, HIGHEST_SEQUENCE, LABEL_SIZE, RECORD_SIZE};
+use crate::rng::Rng;
+use crate::sector::{self, OTADATA_SIZE, SECTOR_SIZE};
+
+const PAGE: usize = 4_096;
+const BLOCK: usize = 65_536;
+/// The flash that the cases share is longer than the longest that is allowed.
+pub const FLASH_SHARED: usize = FLASH_MAX + BLOCK;
+
+// Plain cases.
+
+/// An image of one segment of `length` bytes, zero but for the descriptor's word and version.
+pub fn plain_image(chip_id: u16, version: u32, length: usize, digest: bool) -> Vec<u8> {
+    let mut data = vec![0; length];
+    data[..4].copy_from_slice(&DESCRIPTOR_WORD.to_le_bytes());
+    data[4..8].copy_from_slice(&version.to_le_bytes());
+    build_image(chip_id, 0x4008_0000, &[data], digest)
+}
+
+/// A list and flash with a slot of 4,096 bytes for each item, and factory where it is given. A slot holds a plain image of
+/// that version, or erased bytes.
+pub fn plain_node(slots: &[Option<u32>], factory: Option<u32>) -> (Vec<u32>, Vec<u8>) {
+    let apps = slots.iter().zip(16..).map(|(version, subtype)| (subtype, *version));
+    let apps: Vec<_> = apps.chain(factory.map(|version| (0, Some(version)))).collect();
+    let mut list = Vec::new();
+    let mut flash = vec![0xFF; apps.len() * BLOCK];
+    for (block, (subtype, version)) in apps.into_iter().enumerate() {
+        let offset = block * BLOCK;
+        list.extend([subtype, offset as u32, PAGE as u32]);
+        if let Some(version) = version {
+            let image = plain_image(0, version, 256, false);
+            flash[offset..][..image.len()].copy_from_slice(&image);
+        }
+    }
+    (list, flash)
+}
+
+/// Otadata whose sectors hold the given records and are otherwise erased.
+pub fn two_sectors(first: Option<[u8; RECORD_SIZE]>, second: Option<[u8; RECORD_SIZE]>) -> Vec<u8> {
+    let mut otadata = vec![0xFF; OTADATA_SIZE];
+    for (sector, record) in otadata.chunks_mut(SECTOR_SIZE).zip([first, second]) {
+        if let Some(record) = record {
+            sector[..RECORD_SIZE].copy_from_slice(&record);
+        }
+    }
+    otadata
+}
+
+/// An image of the given segments' data, with padding, checksum and, if asked for, 32 bytes of digest.
+fn build_image(chip_id: u16, entry: u32, segments: &[Vec<u8>], digest: bool) -> Vec<u8> {
+    let mut image = vec![0; HEADER_SIZE];
+    image[0] = MAGIC;
+    image[1] = segments.len() as u8;
+    image[4..8].copy_from_slice(&entry.to_le_bytes());
+    image[12..14].copy_from_slice(&chip_id.to_le_bytes());
+    image[23] = digest.into();
+    let mut checksum = CHECKSUM_START;
+    for (data, number) in segments.iter().zip(0..) {
+        image.extend((0x3F40_0020_u32 + 0x1_0000 * number).to_le_bytes());
+        image.extend((data.len() as u32).to_le_bytes());
+        image.extend(data);
+        checksum = data.iter().fold(checksum, |sum, byte| sum ^ byte);
+    }
+    image.resize((image.len() / 16 + 1) * 16, 0);
+    *image.last_mut().unwrap() = checksum;
+    if digest {
+        image.resize(image.len() + DIGEST_SIZE, 0xD1);
+    }
+    image
+}
+
+// Records and sectors.
+
+pub fn sequence(rng: &mut Rng) -> u32 {
+    match rng.below(20) {
+        0..=7 => 1 + rng.below(20) as u32,
+        8..=12 => HIGHEST_SEQUENCE - rng.below(16) as u32,
+        13 => rng.pick(&[0, 0xFFFF_FFFF]),
+        14..=15 => 0x8000_0000 - 8 + rng.below(16) as u32,
+        _ => rng.word(),
+    }
+}
+
+/// A sequence beside another: the same, a neighbour, or one that names the same of n slots.
+fn sequence_beside(rng: &mut Rng, other: u32, n: u32) -> u32 {
+    match rng.below(10) {
+        0..=1 => other,
+        2 => other.wrapping_add(1),
+        3 => other.wrapping_sub(1),
+        4 => other.wrapping_add(n),
+        5 => other.wrapping_sub(n),
+        6 => other ^ 0x8000_0000,
+        _ => sequence(rng),
+    }
+}
+
+pub fn state_word(rng: &mut Rng) -> u32 {
+    match rng.below(20) {
+        0 => rng.pick(&[5, 6, 0x100, 0xFFFF_FF02, 0xFFFF_FFFE, 0x8000_0000]),
+        1..=3 => State::Valid.word(),
+        4..=6 => State::New.word(),
+        7..=9 => State::Pending.word(),
+        _ => rng.pick(&State::ALL).word(),
+    }
+}
+
+pub fn label(rng: &mut Rng) -> [u8; LABEL_SIZE] {
+    let mut label = [0xFF; LABEL_SIZE];
+    match rng.below(10) {
+        0..=5 => {}
+        6 => label = [0; LABEL_SIZE],
+        7 => label[..5].copy_from_slice(b"ota_0"),
+        _ => rng.fill(&mut label),
+    }
+    label
+}
+
+/// The 32 bytes of a record, good or damaged.
+pub fn record(rng: &mut Rng, sequence: u32) -> [u8; RECORD_SIZE] {
+    let (label, state) = (label(rng), state_word(rng));
+    let mut bytes = raw_bytes(sequence, &label, state);
+    match rng.below(40) {
+        // A wrong check word.
+        0 => bytes[28 + rng.below(4)] ^= 1 << rng.below(8),
+        1 => bytes[28..].copy_from_slice(&rng.word().to_le_bytes()),
+        // The erasing was cut.
+        2 => bytes[..1 + rng.below(31)].fill(0xFF),
+        // The programming was cut.
+        3 => bytes[..1 + rng.below(31)].fill(0xFF),
+        4 => bytes[rng.below(32)] ^= 1 << rng.below(8),
+        5 => bytes = [rng.pick(&[0, 0xFF]); RECORD_SIZE],
+        6 => bytes = [0xFF; RECORD_SIZE],
+        7 => rng.fill(&mut bytes),
+        _ => {}
+    }
+    bytes
+}
+
+/// A sector: a record, and after it erased bytes, or any.
+pub fn sector(rng: &mut Rng, sequence: u32) -> Vec<u8> {
+    let mut sector = vec![0xFF; SECTOR_SIZE];
+    sector[..RECORD_SIZE].copy_from_slice(&record(rng, sequence));
+    match rng.below(10) {
+        0 => rng.fill(&mut sector[RECORD_SIZE..]),
+        1 => sector[RECORD_SIZE..].fill(0),
+        2 => sector[SECTOR_SIZE - 1] = 0,
+        3 => sector[RECORD_SIZE] = 0x5A,
+        _ => {}
+    }
+    sector
+}
+
+/// Two sectors, often with sequences near each other.
+pub fn sectors(rng: &mut Rng, n: u32) -> [Vec<u8>; 2] {
+    let first = sequence(rng);
+    let second = sequence_beside(rng, first, n);
+    let mut pair = [sector(rng, first), sector(rng, second)];
+    if rng.chance(6) {
+        pair.iter_mut().for_each(|sector| sector.fill(0xFF));
+    }
+    pair
+}
+
+/// A length near the right one, or far from it.
+pub fn wrong_length(rng: &mut Rng, right: usize) -> usize {
+    rng.pick(&[0, 1, right / 2, right - 32, right - 1, right + 1, right + 32, 2 * right])
+}
+
+// Images.
+
+pub fn chip_id(rng: &mut Rng) -> u16 {
+    match rng.below(4) {
+        0 => 0,
+        1 => rng.pick(&[2, 5, 9, 0x0D, 0x0100, 0xFFFF]),
+        _ => rng.word() as u16,
+    }
+}
+
+pub fn version(rng: &mut Rng) -> u32 {
+    match rng.below(4) {
+        0 => rng.below(33) as u32,
+        1 => rng.below(9) as u32,
+        _ => rng.below(5) as u32,
+    }
+}
+
+fn version_too_high(rng: &mut Rng) -> u32 {
+    rng.pick(&[33, 34, 64, 255, 256, 0x0100_0000, 0x8000_0001, 0xFFFF_FFFF])
+}
+
+/// What is wrong with an image.
+#[derive(Clone, Copy, PartialEq, Eq, Debug)]
+pub enum Damage {
+    Magic,
+    NoSegments,
+    ManySegments,
+    OneMoreSegment,
+    Chip,
+    DigestFlag,
+    SegmentLength,
+    SegmentPassesTheEnd,
+    ShortFirstSegment,
+    Descriptor,
+    Checksum,
+    Version,
+    AnyByte,
+    CutNearTheEnd,
+    CutAnywhere,
+    CutBelow288,
+}
+
+use Damage::*;
+
+/// Damage that keeps an image's length, for one that lies in a slot.
+const IN_PLACE: [Damage; 13] = [
+    Magic,
+    NoSegments,
+    ManySegments,
+    OneMoreSegment,
+    Chip,
+    DigestFlag,
+    SegmentLength,
+    SegmentPassesTheEnd,
+    ShortFirstSegment,
+    Descriptor,
+    Checksum,
+    Version,
+    AnyByte,
+];
+const CUTS: [Damage; 3] = [CutNearTheEnd, CutAnywhere, CutBelow288];
+
+/// The lengths of the segments of a good image.
+fn segment_lengths(rng: &mut Rng) -> Vec<usize> {
+    let count = match rng.below(10) {
+        0..=5 => 1 + rng.below(3),
+        6..=8 => 1 + rng.below(16),
+        _ => 16,
+    };
+    let first = if rng.chance(50) { 256 } else { 256 + 4 * rng.below(60) };
+    let mut lengths = vec![first];
+    lengths.resize_with(count, || 4 * rng.below(if count > 3 { 12 } else { 60 }));
+    lengths
+}
+
+/// The image with some damage. The checksum is right unless that is damaged.
+fn random_image(rng: &mut Rng, chip_id: u16, mut lengths: Vec<usize>, digest: bool, damages: &[Damage]) -> Vec<u8> {
+    let has = |damage| damages.contains(&damage);
+    if has(ShortFirstSegment) {
+        lengths[0] = rng.pick(&[0, 4, 128, 248, 252]);
+    }
+    let mut version = version(rng);
+    if has(Version) {
+        version = version_too_high(rng);
+    }
+    let zeros = rng.chance(30);
+    let mut segments: Vec<Vec<u8>> = lengths.iter().map(|length| vec![0; *length]).collect();
+    if !zeros {
+        segments.iter_mut().for_each(|data| rng.fill(data));
+    }
+    let mut descriptor = [DESCRIPTOR_WORD.to_le_bytes(), version.to_le_bytes()].concat();
+    if has(Descriptor) {
+        descriptor[rng.below(4)] ^= 1 << rng.below(8);
+    }
+    if let Some(start) = segments[0].get_mut(..8) {
+        start.copy_from_slice(&descriptor);
+    }
+    let mut image = build_image(chip_id, rng.word(), &segments, digest);
+    let end = HEADER_SIZE + lengths.iter().map(|length| SEGMENT_HEADER_SIZE + length).sum::<usize>();
+    for damage in damages {
+        match damage {
+            Magic => image[0] = rng.pick(&[0, 0xE8, 0xFF, 0x69]),
+            NoSegments => image[1] = 0,
+            ManySegments => image[1] = rng.pick(&[17, 18, 32, 128, 255]),
+            OneMoreSegment => image[1] += 1,
+            Chip => image[12 + rng.below(2)] ^= 1 << rng.below(8),
+            DigestFlag => image[23] = rng.pick(&[2, 3, 0x80, 0xFF]),
+            SegmentLength | SegmentPassesTheEnd => {
+                let number = rng.below(lengths.len());
+                let place = HEADER_SIZE + lengths[..number].iter().map(|l| SEGMENT_HEADER_SIZE + l).sum::<usize>() + 4;
+                let length = if *damage == SegmentLength {
+                    lengths[number] as u32 + rng.pick(&[1, 2, 3, 5, 0x8000_0002, 0_u32.wrapping_sub(2)])
+                } else {
+                    let room = (image.len() - place) as u32 & !3;
+                    rng.pick(&[room, room + 4, 0x7FFF_FFFC, 0x8000_0000, 0xFFFF_FFF0, 0xFFFF_FFFC])
+                };
+                image[place..place + 4].copy_from_slice(&length.to_le_bytes());
+            }
+            Checksum => image[(end / 16 + 1) * 16 - 1] ^= 1 << rng.below(8),
+            AnyByte => {
+                let place = rng.below(image.len());
+                image[place] ^= 1 << rng.below(8);
+            }
+            CutNearTheEnd => {
+                let cut = 1 + rng.below(image.len() - end);
+                image.truncate(image.len().saturating_sub(cut));
+            }
+            CutAnywhere => {
+                let length = rng.below(image.len() + 1);
+                image.truncate(length);
+            }
+            CutBelow288 => {
+                let length = rng.pick(&[0, 1, 23, 24, 31, 32, 40, 286, 287]);
+                image.truncate(length);
+            }
+            ShortFirstSegment | Descriptor | Version => {}
+        }
+    }
+    image
+}
+
+/// An image for the image check alone, and the chip id to check it for.
+pub fn lone_image(rng: &mut Rng) -> (Vec<u8>, u16) {
+    let chip_id = chip_id(rng);
+    let mut lengths = segment_lengths(rng);
+    if rng.chance(1) {
+        lengths[0] += 4 * rng.below(50_000);
+    }
+    let damages: Vec<Damage> = (0..rng.pick(&[0, 0, 0, 1, 1, 1, 1, 1, 2, 3]))
+        .map(|_| {
+            if rng.chance(25) {
+                rng.pick(&CUTS)
+            } else {
+                rng.pick(&IN_PLACE)
+            }
+        })
+        .collect();
+    let digest = rng.chance(50);
+    let mut image = random_image(rng, chip_id, lengths, digest, &sorted(damages));
+    if rng.chance(30) {
+        let mut more = vec![0xFF; rng.below(64)];
+        if rng.chance(50) {
+            rng.fill(&mut more);
+        }
+        image.extend(more);
+    }
+    (image, chip_id)
+}
+
+/// Each damage once, cuts last.
+fn sorted(mut damages: Vec<Damage>) -> Vec<Damage> {
+    damages.sort_by_key(|damage| *damage as u32);
+    damages.dedup();
+    damages
+}
+
+/// An image for a slot of `size` bytes; now and then one that ends with the slot or passes its end.
+fn slot_image(rng: &mut Rng, chip_id: u16, size: usize, good: bool) -> Vec<u8> {
+    let mut lengths = segment_lengths(rng);
+    let digest = rng.chance(50);
+    let mut damages = Vec::new();
+    if !good {
+        damages.extend((0..rng.pick(&[1, 1, 1, 2])).map(|_| rng.pick(&IN_PLACE)));
+    }
+    if rng.chance(4) && size <= 8 * PAGE {
+        // The end e falls so many bytes from the end of the slot.
+        let before = if good {
+            rng.pick(&[36, 48])
+        } else {
+            rng.pick(&[0, 4, 12, 16, 20, 28, 32])
+        };
+        let end = HEADER_SIZE + lengths.iter().map(|length| SEGMENT_HEADER_SIZE + length).sum::<usize>();
+        if end + before < size {
+            *lengths.last_mut().unwrap() += size - before - end;
+            if !good && rng.chance(80) {
+                damages.clear();
+            }
+        }
+    }
+    random_image(rng, chip_id, lengths, digest, &sorted(damages))
+}
+
+// Partition lists.
+
+/// The ways in which a list breaks its rules.
+#[derive(Clone, Copy, PartialEq, Eq, PartialOrd, Ord, Debug)]
+pub enum Rule {
+    BrokenTriple,
+    FactoryTwice,
+    SlotTwice,
+    SlotMissing,
+    NoSlot,
+    OneSlot,
+    NineSlots,
+    OtherSubtype,
+    Offset,
+    SizeZero,
+    Size,
+    Overlap,
+    PassesTheEnd,
+    Past32Bits,
+    FlashTooLong,
+}
+
+impl Rule {
+    pub const ALL: [Rule; 15] = [
+        Rule::BrokenTriple,
+        Rule::FactoryTwice,
+        Rule::SlotTwice,
+        Rule::SlotMissing,
+        Rule::NoSlot,
+        Rule::OneSlot,
+        Rule::NineSlots,
+        Rule::OtherSubtype,
+        Rule::Offset,
+        Rule::SizeZero,
+        Rule::Size,
+        Rule::Overlap,
+        Rule::PassesTheEnd,
+        Rule::Past32Bits,
+        Rule::FlashTooLong,
+    ];
+}
+
+/// A partition list with the flash's length, and the rule that it breaks, if any.
+#[derive(Clone, Debug)]
+pub struct List {
+    pub words: Vec<u32>,
+    pub flash_len: usize,
+    pub n: u32,
+    pub broken: Option<Rule>,
+}
+
+/// A list that keeps the rules, its entries in any order in the list and in the flash.
+pub fn good_list(rng: &mut Rng, factory: bool) -> List {
+    let n = 2 + rng.below(7);
+    let mut subtypes: Vec<u32> = (16..16 + n as u32).collect();
+    if factory {
+        subtypes.push(0);
+    }
+    rng.shuffle(&mut subtypes);
+    let mut offset = rng.pick(&[0, BLOCK, 2 * BLOCK]);
+    let mut entries = Vec::new();
+    let mut end = 0;
+    for subtype in subtypes {
+        let pages = match rng.below(20) {
+            0..=1 => 16,
+            2 => 17 + rng.below(16),
+            _ => 1 + rng.below(3),
+        };
+        entries.push([subtype, offset as u32, (pages * PAGE) as u32]);
+        end = offset + pages * PAGE;
+        offset = end.next_multiple_of(BLOCK) + if rng.chance(10) { BLOCK } else { 0 };
+    }
+    let mut flash_len = end + if rng.chance(50) { 0 } else { rng.below(2 * BLOCK) };
+    if rng.chance(3) {
+        // The last one ends where the longest flash does.
+        let last = entries.last_mut().unwrap();
+        last[1] = (FLASH_MAX - (last[2] as usize).next_multiple_of(BLOCK)) as u32;
+        last[2] = FLASH_MAX as u32 - last[1];
+        flash_len = FLASH_MAX;
+    }
+    rng.shuffle(&mut entries);
+    List {
+        words: entries.concat(),
+        flash_len,
+        n: n as u32,
+        broken: None,
+    }
+}
+
+/// The list with one rule broken, the others kept where that can be.
+pub fn break_list(rng: &mut Rng, list: List, rule: Rule) -> List {
+    let List {
+        words,
+        mut flash_len,
+        n,
+        ..
+    } = list;
+    let mut entries: Vec<[u32; 3]> = words.chunks(3).map(|entry| entry.try_into().unwrap()).collect();
+    if flash_len > 8 << 20 {
+        // Make room: the entry at the end of the longest flash goes.
+        flash_len = 4 << 20;
+        let last = entries.iter_mut().max_by_key(|entry| entry[1]).unwrap();
+        *last = [last[0], (3 << 20) as u32, PAGE as u32];
+    }
+    let add = |entries: &mut Vec<[u32; 3]>, flash_len: &mut usize, subtype: u32| {
+        let offset = flash_len.next_multiple_of(BLOCK);
+        entries.push([subtype, offset as u32, PAGE as u32]);
+        *flash_len = offset + PAGE;
+    };
+    let any = rng.below(entries.len());
+    let mut extra = 0_isize;
+    match rule {
+        Rule::BrokenTriple => extra = rng.pick(&[-2, -1, 1, 2]),
+        Rule::FactoryTwice => {
+            while entries.iter().filter(|entry| entry[0] == 0).count() < 2 {
+                add(&mut entries, &mut flash_len, 0);
+            }
+        }
+        Rule::SlotTwice => add(&mut entries, &mut flash_len, 16 + rng.below(n as usize) as u32),
+        Rule::SlotMissing => {
+            let highest = 16 + n - 1;
+            if n < 8 {
+                entries
+                    .iter_mut()
+                    .filter(|entry| entry[0] == highest)
+                    .for_each(|entry| entry[0] += 1);
+            } else {
+                let gone = 16 + rng.below(7) as u32;
+                entries.retain(|entry| entry[0] != gone);
+            }
+        }
+        Rule::NoSlot => entries.retain(|entry| entry[0] == 0),
+        Rule::OneSlot => {
+            let only = rng.pick(&[16, 17]);
+            entries.retain(|entry| entry[0] == 0 || entry[0] == only);
+        }
+        Rule::NineSlots => (16 + n..25).for_each(|subtype| add(&mut entries, &mut flash_len, subtype)),
+        Rule::OtherSubtype => {
+            let subtype = rng.pick(&[
+                1,
+                2,
+                15,
+                24,
+                32,
+                0x100,
+                0x110,
+                0x1_0000,
+                0x1_0010,
+                0x8000_0010,
+                0xFFFF_FFFF,
+            ]);
+            add(&mut entries, &mut flash_len, subtype);
+        }
+        Rule::Offset => {
+            entries[any][1] += rng.pick(&[1, 0x100, 0x1000, 0x8000]);
+            entries[any][2] = PAGE as u32;
+            flash_len += PAGE;
+        }
+        Rule::SizeZero => entries[any][2] = 0,
+        Rule::Size => {
+            entries[any][2] = rng.pick(&[1, 32, 2048, 4095, 4097, 6144, 8191]);
+            flash_len += PAGE;
+        }
+        Rule::Overlap => {
+            let other = (any + 1 + rng.below(entries.len() - 1)) % entries.len();
+            let (low, high) = if entries[any][1] < entries[other][1] {
+                (any, other)
+            } else {
+                (other, any)
+            };
+            if rng.chance(50) {
+                // The lower one reaches into the higher one, by a page or more.
+                entries[low][2] = entries[high][1] - entries[low][1] + rng.pick(&[1, 1, 2]) * PAGE as u32;
+                flash_len += PAGE;
+            } else {
+                entries[high][1] = entries[low][1];
+            }
+        }
+        Rule::PassesTheEnd => {
+            let end = entries
+                .iter()
+                .map(|entry| (entry[1] + entry[2]) as usize)
+                .max()
+                .unwrap();
+            flash_len = rng.pick(&[end - 1, end - PAGE, end / 2, 0]);
+        }
+        Rule::Past32Bits => {
+            let (offset, size) = rng.pick(&[
+                (0xFFFF_0000, 0x1_0000),
+                (0xFFFF_0000, 0x2_0000),
+                (0x100_0000, 0xFF00_1000),
+            ]);
+            entries[any][1] = offset;
+            entries[any][2] = size;
+        }
+        Rule::FlashTooLong => flash_len = FLASH_MAX + rng.pick(&[1, 2, PAGE, BLOCK]),
+    }
+    let mut words = entries.concat();
+    if extra < 0 {
+        words.truncate(words.len() - (-extra) as usize);
+    } else {
+        words.extend((0..extra).map(|_| 0));
+    }
+    List {
+        words,
+        flash_len,
+        n,
+        broken: Some(rule),
+    }
+}
+
+/// A list for the list's check alone; its flash needn't exist.
+pub fn lone_list(rng: &mut Rng) -> List {
+    let factory = rng.chance(50);
+    let mut list = good_list(rng, factory);
+    match rng.below(10) {
+        0..=2 => {}
+        3..=7 => {
+            let rule = rng.pick(&Rule::ALL);
+            list = break_list(rng, list, rule);
+            if rule == Rule::FlashTooLong && rng.chance(30) {
+                list.flash_len = rng.pick(&[1 << 31, 1 << 32, (1 << 32) + (1 << 20), usize::MAX]);
+            }
+        }
+        8 => {
+            // One bit of one word.
+            let place = rng.below(list.words.len());
+            list.words[place] ^= 1 << rng.below(32);
+        }
+        _ => {
+            // The words of an arbitrary list, from the ones that matter.
+            list.words = (0..3 * rng.below(6))
+                .map(|_| {
+                    rng.pick(&[
+                        0, 0x10, 0x11, 0x12, 0x1000, 0x2000, 0x1_0000, 0x2_0000, 0x3_0000, 0x1001,
+                    ])
+                })
+                .collect();
+        }
+    }
+    list
+}
+
+// Nodes.
+
+/// All that a call on a node is given.
+#[derive(Clone)]
+pub struct NodeCase {
+    pub list: List,
+    /// What the flash holds, by place; the rest is erased.
+    pub images: Vec<(usize, Vec<u8>)>,
+    pub otadata: Vec<u8>,
+    pub settings: ffi::Settings,
+    pub slot: u32,
+    pub running: u32,
+}
+
+pub fn node(rng: &mut Rng) -> NodeCase {
+    let factory = rng.chance(40);
+    let settings = settings(rng, factory);
+    let mut list = good_list(rng, factory);
+    let n = list.n;
+
+    let health = rng.pick(&[0, 20, 50, 70, 90, 100]);
+    let mut images = Vec::new();
+    for entry in list.words.chunks(3) {
+        let (offset, size) = (entry[1] as usize, entry[2] as usize);
+        let good = rng.chance(health);
+        if !good && rng.chance(10) {
+            continue;
+        }
+        let mut image = slot_image(rng, settings.chip_id, size, good);
+        image.truncate(list.flash_len - offset);
+        images.push((offset, image));
+    }
+
+    let mut otadata = sectors(rng, n).concat();
+    let (slot, running) = (slot(rng, &otadata, n), slot(rng, &otadata, n));
+    let running = if rng.chance(25) { ffi::RUNNING_FACTORY } else { running };
+    if rng.chance(4) {
+        otadata.resize(wrong_length(rng, OTADATA_SIZE), 0xFF);
+    }
+    if rng.chance(5) {
+        let rule = rng.pick(&Rule::ALL);
+        list = break_list(rng, list, rule);
+    }
+    NodeCase {
+        list,
+        images,
+        otadata,
+        settings,
+        slot,
+        running,
+    }
+}
+
+fn settings(rng: &mut Rng, factory: bool) -> ffi::Settings {
+    let on = |rng: &mut Rng| rng.pick(&[1, 1, 1, 2, 0x80, 0xFF]);
+    let rollback = if rng.chance(65) { on(rng) } else { 0 };
+    let refused = factory || rollback == 0;
+    let anti_rollback = if rng.chance(if refused { 6 } else { 60 }) {
+        on(rng)
+    } else {
+        0
+    };
+    ffi::Settings {
+        chip_id: chip_id(rng),
+        efuse: efuse(rng),
+        rollback,
+        anti_rollback,
+    }
+}
+
+/// A register: some of the lowest bits, or any.
+pub fn efuse(rng: &mut Rng) -> u32 {
+    match rng.below(10) {
+        0..=4 => (1 << rng.below(5)) - 1,
+        5..=7 => (0..rng.below(6)).fold(0, |register, _| register | 1 << rng.below(32)),
+        8 => rng.word(),
+        _ => rng.pick(&[0xFFFF_FFFF, 0xFFFF_FFFE, 0x7FFF_FFFF, 0x8000_0000]),
+    }
+}
+
+/// A slot to ask for: most often one that a record names.
+fn slot(rng: &mut Rng, otadata: &[u8], n: u32) -> u32 {
+    let readings = sector::readings(otadata);
+    let named = match rng.below(20) {
+        0..=9 => sector::active(&readings).and_then(|number| readings[number]),
+        10..=12 => readings[0],
+        13..=15 => readings[1],
+        _ => None,
+    };
+    match named {
+        Some(record) => record.slot(n),
+        None if rng.chance(70) => rng.below(n as usize) as u32,
+        None => rng.pick(&[
+            n,
+            n + 1,
+            7,
+            8,
+            16,
+            255,
+            256,
+            0x1_0000,
+            0x8000_0000,
+            0xFFFF_FFFE,
+            0xFFFF_FFFF,
+        ]),
+    }
+}

@@ -1,0 +1,162 @@
+//! The app image: its layout and the check of it.
+
+use crate::record::word_at;
+use crate::refusal::ImageRefusal;
+
+pub const MAGIC: u8 = 0xE9;
+pub const HEADER_SIZE: usize = 24;
+pub const SEGMENT_HEADER_SIZE: usize = 8;
+pub const SEGMENTS_MAX: u8 = 16;
+pub const DESCRIPTOR_SIZE: usize = 256;
+pub const DESCRIPTOR_WORD: u32 = 0xABCD_5432;
+pub const DESCRIPTOR_PLACE: usize = 32;
+pub const VERSION_PLACE: usize = 36;
+pub const VERSION_MAX: u32 = 32;
+pub const CHECKSUM_START: u8 = 0xEF;
+pub const DIGEST_SIZE: usize = 32;
+/// The shortest image that isn't refused with 20: header, one segment header and the descriptor.
+pub const IMAGE_MIN: usize = 288;
+
+/// The facts of an accepted image.
+#[derive(Clone, Copy, PartialEq, Eq, Debug)]
+pub struct Facts {
+    pub length: u64,
+    pub entry: u32,
+    pub version: u32,
+    pub segments: u32,
+}
+
+/// Checks an image for a chip. The tests run in the order of their numbers, so the lowest that applies is given.
+pub fn check(image: &[u8], chip_id: u16) -> Result<Facts, ImageRefusal> {
+    let test = |right: bool, number: u32, place: usize| {
+        right.then_some(()).ok_or(ImageRefusal {
+            number,
+            place: place as u64,
+        })
+    };
+    test(image.len() >= IMAGE_MIN, 20, 0)?;
+    test(image[0] == MAGIC, 21, 0)?;
+    let count = image[1];
+    test((1..=SEGMENTS_MAX).contains(&count), 22, 1)?;
+    test(u16::from_le_bytes([image[12], image[13]]) == chip_id, 23, 12)?;
+    let digest = image[23];
+    test(digest <= 1, 24, 23)?;
+
+    let mut end = HEADER_SIZE;
+    let mut checksum = CHECKSUM_START;
+    for _ in 0..count {
+        let data = segment_data(image, end);
+        test(data.is_some(), 25, end)?;
+        let data = data.unwrap_or_default();
+        checksum = data.iter().fold(checksum, |sum, byte| sum ^ byte);
+        end += SEGMENT_HEADER_SIZE + data.len();
+    }
+    let first_length = word_at(image, HEADER_SIZE + 4) as usize;
+    let described = first_length >= DESCRIPTOR_SIZE && word_at(image, DESCRIPTOR_PLACE) == DESCRIPTOR_WORD;
+    test(described, 26, DESCRIPTOR_PLACE)?;
+
+    let padded = (end / 16 + 1) * 16;
+    let length = padded + if digest == 1 { DIGEST_SIZE } else { 0 };
+    test(length <= image.len(), 27, end)?;
+    test(image[padded - 1] == checksum, 28, padded - 1)?;
+    let version = word_at(image, VERSION_PLACE);
+    test(version <= VERSION_MAX, 29, VERSION_PLACE)?;
+    Ok(Facts {
+        length: length as u64,
+        entry: word_at(image, 4),
+        version,
+        segments: count.into(),
+    })
+}
+
+/// The data of the segment whose header is at `place`, or none if it passes the end or its length isn't a multiple of 4.
+fn segment_data(image: &[u8], place: usize) -> Option<&[u8]> {
+    let (header, rest) = image.get(place..)?.split_at_checked(SEGMENT_HEADER_SIZE)?;
+    let length = word_at(header, 4) as usize;
+    if length % 4 == 0 {
+        rest.get(..length)
+    } else {
+        None
+    }
+}
+
+#[cfg(test)]
+mod tests {
+    use super::*;
+    use crate::generate::plain_image;
+
+    #[test]
+    fn the_smallest_image() {
+        let mut image = plain_image(0, 1, 256, false);
+        assert_eq!((image.len(), image[303]), (304, 0xEE));
+        assert_eq!(
+            check(&image, 0),
+            Ok(Facts {
+                length: 304,
+                entry: 0x4008_0000,
+                version: 1,
+                segments: 1
+            })
+        );
+        image = plain_image(0, 1, 256, true);
+        assert_eq!(check(&image, 0).unwrap().length, 336);
+        image.truncate(335);
+        assert_eq!(check(&image, 0), Err(ImageRefusal { number: 27, place: 288 }));
+    }
+
+    #[test]
+    fn the_end_of_source_document_002() {
+        let image = plain_image(0, 1, 0x89B7C - 32, true);
+        assert_eq!(check(&image, 0).unwrap().length, 564_128);
+        let mut wrong = image.clone();
+        wrong[0x89B7F] ^= 1;
+        assert_eq!(
+            check(&wrong, 0),
+            Err(ImageRefusal {
+                number: 28,
+                place: 0x89B7F
+            })
+        );
+    }
+
+    #[test]
+    fn lengths_of_segment_0() {
+        let with_length = |length: u32| {
+            let mut image = plain_image(0, 1, 256, false);
+            image[28..32].copy_from_slice(&length.to_le_bytes());
+            check(&image, 0).map_err(|refusal| (refusal.number, refusal.place))
+        };
+        assert_eq!(with_length(254), Err((25, 24)));
+        assert_eq!(with_length(252), Err((26, 32)));
+        assert_eq!(with_length(276), Err((25, 24)));
+        assert_eq!(with_length(0xFFFF_FFFC), Err((25, 24)));
+        assert!(with_length(256).is_ok());
+    }
+
+    #[test]
+    fn the_lowest_number_is_given() {
+        let image = plain_image(5, 33, 256, false);
+        let number = |image: &[u8]| {
+            check(image, 5)
+                .map_err(|refusal| (refusal.number, refusal.place))
+                .unwrap_err()
+        };
+        assert_eq!(number(&image), (29, 36));
+        let mut worse = image.clone();
+        for (place, expected) in [
+            (303, (28, 303)),
+            (32, (26, 32)),
+            (28, (25, 24)),
+            (23, (24, 23)),
+            (13, (23, 12)),
+        ] {
+            worse[place] ^= 0xFE;
+            assert_eq!(number(&worse), expected);
+        }
+        worse[1] = 17;
+        assert_eq!(number(&worse), (22, 1));
+        worse[0] = 0;
+        assert_eq!(number(&worse), (21, 0));
+        assert_eq!(number(&worse[..287]), (20, 0));
+    }
+}
