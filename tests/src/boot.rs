@@ -83,11 +83,7 @@ fn choose(
 ) -> Option<Started> {
     let n = partitions.n();
     let passes = |app: App| passes(partitions, flash, settings, app);
-    let started = |app: App, sector: Option<usize>| Started {
-        app,
-        sector,
-        efuse: settings.efuse,
-    };
+    let started = |app: App, sector: Option<usize>| Started { app, sector, efuse: settings.efuse };
 
     // The active record's slot, then the other usable record's.
     if let Some(first) = active(readings) {
@@ -130,12 +126,7 @@ mod tests {
         Some(make(sequence, &[0xFF; 20], state.word()).unwrap())
     }
 
-    const OFF: Settings = Settings {
-        chip_id: 0,
-        efuse: 0,
-        rollback: false,
-        anti_rollback: false,
-    };
+    const OFF: Settings = Settings { chip_id: 0, efuse: 0, rollback: false, anti_rollback: false };
     const ROLLBACK: Settings = Settings { rollback: true, ..OFF };
 
     #[test]
@@ -143,11 +134,7 @@ mod tests {
         let (list, flash) = plain_node(&[None, Some(1)], None);
         let mut otadata = two_sectors(record(4, State::Valid), record(5, State::Aborted));
         let before = otadata.clone();
-        let started = Started {
-            app: App::Slot(1),
-            sector: Some(0),
-            efuse: 0,
-        };
+        let started = Started { app: App::Slot(1), sector: Some(0), efuse: 0 };
         assert_eq!(boot(&list, &flash, &mut otadata, &ROLLBACK), Ok(started));
         assert_eq!(otadata, before);
     }
@@ -156,13 +143,7 @@ mod tests {
     fn a_new_app_has_one_trial() {
         let (list, flash) = plain_node(&[Some(1), Some(1)], None);
         let mut otadata = two_sectors(record(1, State::Valid), record(2, State::New));
-        let started = |slot, sector| {
-            Ok(Started {
-                app: App::Slot(slot),
-                sector: Some(sector),
-                efuse: 0,
-            })
-        };
+        let started = |slot, sector| Ok(Started { app: App::Slot(slot), sector: Some(sector), efuse: 0 });
         assert_eq!(boot(&list, &flash, &mut otadata, &ROLLBACK), started(1, 1));
         assert_eq!(otadata, two_sectors(record(1, State::Valid), record(2, State::Pending)));
         assert_eq!(boot(&list, &flash, &mut otadata.clone(), &OFF), started(1, 1));
@@ -174,36 +155,19 @@ mod tests {
     fn nothing_bootable_keeps_the_aborted_marks() {
         let (list, flash) = plain_node(&[Some(1), None], None);
         let mut otadata = two_sectors(record(1, State::Pending), record(2, State::Invalid));
-        assert_eq!(
-            boot(&list, &flash, &mut otadata, &ROLLBACK),
-            Err(Refusal::NothingBootable)
-        );
-        assert_eq!(
-            otadata,
-            two_sectors(record(1, State::Aborted), record(2, State::Invalid))
-        );
+        assert_eq!(boot(&list, &flash, &mut otadata, &ROLLBACK), Err(Refusal::NothingBootable));
+        assert_eq!(otadata, two_sectors(record(1, State::Aborted), record(2, State::Invalid)));
     }
 
     #[test]
     fn the_search_raises_the_register_without_good_records() {
-        let settings = Settings {
-            efuse: 0b1000,
-            anti_rollback: true,
-            ..ROLLBACK
-        };
+        let settings = Settings { efuse: 0b1000, anti_rollback: true, ..ROLLBACK };
         let (list, flash) = plain_node(&[Some(0), Some(3)], None);
         let mut otadata = two_sectors(None, None);
-        let started = Started {
-            app: App::Slot(1),
-            sector: None,
-            efuse: 0b1011,
-        };
+        let started = Started { app: App::Slot(1), sector: None, efuse: 0b1011 };
         assert_eq!(boot(&list, &flash, &mut otadata, &settings), Ok(started));
         let mut otadata = two_sectors(record(1, State::Invalid), None);
-        let started = Started {
-            efuse: 0b1000,
-            ..started
-        };
+        let started = Started { efuse: 0b1000, ..started };
         assert_eq!(boot(&list, &flash, &mut otadata, &settings), Ok(started));
     }
 }

@@ -128,15 +128,7 @@ pub fn read_sector(sector: &[u8], out: &mut [u32; 2]) -> u32 {
 }
 
 pub fn active(first: &[u8], second: &[u8], record: &mut [u8; 32]) -> u32 {
-    unsafe {
-        c::ota_active(
-            first.as_ptr(),
-            first.len(),
-            second.as_ptr(),
-            second.len(),
-            record.as_mut_ptr(),
-        )
-    }
+    unsafe { c::ota_active(first.as_ptr(), first.len(), second.as_ptr(), second.len(), record.as_mut_ptr()) }
 }
 
 pub fn store(sector: &mut [u8], record: &[u8], m: usize) -> u32 {

@@ -105,6 +105,8 @@ pub fn state_word(rng: &mut Rng) -> u32 {
         1..=3 => State::Valid.word(),
         4..=6 => State::New.word(),
         7..=9 => State::Pending.word(),
+        10..=11 => State::Invalid.word(),
+        12..=13 => State::Aborted.word(),
         _ => rng.pick(&State::ALL).word(),
     }
 }
@@ -321,13 +323,7 @@ pub fn lone_image(rng: &mut Rng) -> (Vec<u8>, u16) {
         lengths[0] += 4 * rng.below(50_000);
     }
     let damages: Vec<Damage> = (0..rng.pick(&[0, 0, 0, 1, 1, 1, 1, 1, 2, 3]))
-        .map(|_| {
-            if rng.chance(25) {
-                rng.pick(&CUTS)
-            } else {
-                rng.pick(&IN_PLACE)
-            }
-        })
+        .map(|_| if rng.chance(25) { rng.pick(&CUTS) } else { rng.pick(&IN_PLACE) })
         .collect();
     let digest = rng.chance(50);
     let mut image = random_image(rng, chip_id, lengths, digest, &sorted(damages));
@@ -358,11 +354,7 @@ fn slot_image(rng: &mut Rng, chip_id: u16, size: usize, good: bool) -> Vec<u8> {
     }
     if rng.chance(4) && size <= 8 * PAGE {
         // The end e falls so many bytes from the end of the slot.
-        let before = if good {
-            rng.pick(&[36, 48])
-        } else {
-            rng.pick(&[0, 4, 12, 16, 20, 28, 32])
-        };
+        let before = if good { rng.pick(&[36, 48]) } else { rng.pick(&[0, 4, 12, 16, 20, 28, 32]) };
         let end = HEADER_SIZE + lengths.iter().map(|length| SEGMENT_HEADER_SIZE + length).sum::<usize>();
         if end + before < size {
             *lengths.last_mut().unwrap() += size - before - end;
@@ -455,22 +447,12 @@ pub fn good_list(rng: &mut Rng, factory: bool) -> List {
         flash_len = FLASH_MAX;
     }
     rng.shuffle(&mut entries);
-    List {
-        words: entries.concat(),
-        flash_len,
-        n: n as u32,
-        broken: None,
-    }
+    List { words: entries.concat(), flash_len, n: n as u32, broken: None }
 }
 
 /// The list with one rule broken, the others kept where that can be.
 pub fn break_list(rng: &mut Rng, list: List, rule: Rule) -> List {
-    let List {
-        words,
-        mut flash_len,
-        n,
-        ..
-    } = list;
+    let List { words, mut flash_len, n, .. } = list;
     let mut entries: Vec<[u32; 3]> = words.chunks(3).map(|entry| entry.try_into().unwrap()).collect();
     if flash_len > 8 << 20 {
         // Make room: the entry at the end of the longest flash goes.
@@ -496,10 +478,7 @@ pub fn break_list(rng: &mut Rng, list: List, rule: Rule) -> List {
         Rule::SlotMissing => {
             let highest = 16 + n - 1;
             if n < 8 {
-                entries
-                    .iter_mut()
-                    .filter(|entry| entry[0] == highest)
-                    .for_each(|entry| entry[0] += 1);
+                entries.iter_mut().filter(|entry| entry[0] == highest).for_each(|entry| entry[0] += 1);
             } else {
                 let gone = 16 + rng.below(7) as u32;
                 entries.retain(|entry| entry[0] != gone);
@@ -512,19 +491,7 @@ pub fn break_list(rng: &mut Rng, list: List, rule: Rule) -> List {
         }
         Rule::NineSlots => (16 + n..25).for_each(|subtype| add(&mut entries, &mut flash_len, subtype)),
         Rule::OtherSubtype => {
-            let subtype = rng.pick(&[
-                1,
-                2,
-                15,
-                24,
-                32,
-                0x100,
-                0x110,
-                0x1_0000,
-                0x1_0010,
-                0x8000_0010,
-                0xFFFF_FFFF,
-            ]);
+            let subtype = rng.pick(&[1, 2, 15, 24, 32, 0x100, 0x110, 0x1_0000, 0x1_0010, 0x8000_0010, 0xFFFF_FFFF]);
             add(&mut entries, &mut flash_len, subtype);
         }
         Rule::Offset => {
@@ -539,11 +506,7 @@ pub fn break_list(rng: &mut Rng, list: List, rule: Rule) -> List {
         }
         Rule::Overlap => {
             let other = (any + 1 + rng.below(entries.len() - 1)) % entries.len();
-            let (low, high) = if entries[any][1] < entries[other][1] {
-                (any, other)
-            } else {
-                (other, any)
-            };
+            let (low, high) = if entries[any][1] < entries[other][1] { (any, other) } else { (other, any) };
             if rng.chance(50) {
                 // The lower one reaches into the higher one, by a page or more.
                 entries[low][2] = entries[high][1] - entries[low][1] + rng.pick(&[1, 1, 2]) * PAGE as u32;
@@ -553,19 +516,12 @@ pub fn break_list(rng: &mut Rng, list: List, rule: Rule) -> List {
             }
         }
         Rule::PassesTheEnd => {
-            let end = entries
-                .iter()
-                .map(|entry| (entry[1] + entry[2]) as usize)
-                .max()
-                .unwrap();
+            let end = entries.iter().map(|entry| (entry[1] + entry[2]) as usize).max().unwrap();
             flash_len = rng.pick(&[end - 1, end - PAGE, end / 2, 0]);
         }
         Rule::Past32Bits => {
-            let (offset, size) = rng.pick(&[
-                (0xFFFF_0000, 0x1_0000),
-                (0xFFFF_0000, 0x2_0000),
-                (0x100_0000, 0xFF00_1000),
-            ]);
+            let (offset, size) =
+                rng.pick(&[(0xFFFF_0000, 0x1_0000), (0xFFFF_0000, 0x2_0000), (0x100_0000, 0xFF00_1000)]);
             entries[any][1] = offset;
             entries[any][2] = size;
         }
@@ -577,12 +533,7 @@ pub fn break_list(rng: &mut Rng, list: List, rule: Rule) -> List {
     } else {
         words.extend((0..extra).map(|_| 0));
     }
-    List {
-        words,
-        flash_len,
-        n,
-        broken: Some(rule),
-    }
+    List { words, flash_len, n, broken: Some(rule) }
 }
 
 /// A list for the list's check alone; its flash needn't exist.
@@ -606,11 +557,7 @@ pub fn lone_list(rng: &mut Rng) -> List {
         _ => {
             // The words of an arbitrary list, from the ones that matter.
             list.words = (0..3 * rng.below(6))
-                .map(|_| {
-                    rng.pick(&[
-                        0, 0x10, 0x11, 0x12, 0x1000, 0x2000, 0x1_0000, 0x2_0000, 0x3_0000, 0x1001,
-                    ])
-                })
+                .map(|_| rng.pick(&[0, 0x10, 0x11, 0x12, 0x1000, 0x2000, 0x1_0000, 0x2_0000, 0x3_0000, 0x1001]))
                 .collect();
         }
     }
@@ -627,7 +574,11 @@ pub struct NodeCase {
     pub images: Vec<(usize, Vec<u8>)>,
     pub otadata: Vec<u8>,
     pub settings: ffi::Settings,
+    /// The slot of the marks and the query: most often one that a record names.
     pub slot: u32,
+    /// The slot of set-boot.
+    pub target: u32,
+    /// The running slot of the next update slot; most often one, or factory.
     pub running: u32,
 }
 
@@ -651,8 +602,9 @@ pub fn node(rng: &mut Rng) -> NodeCase {
     }
 
     let mut otadata = sectors(rng, n).concat();
-    let (slot, running) = (slot(rng, &otadata, n), slot(rng, &otadata, n));
-    let running = if rng.chance(25) { ffi::RUNNING_FACTORY } else { running };
+    let slot = named_slot(rng, &otadata, n);
+    let target = if rng.chance(20) { slot } else { any_slot(rng, n) };
+    let running = if rng.chance(25) { ffi::RUNNING_FACTORY } else { any_slot(rng, n) };
     if rng.chance(4) {
         otadata.resize(wrong_length(rng, OTADATA_SIZE), 0xFF);
     }
@@ -660,31 +612,15 @@ pub fn node(rng: &mut Rng) -> NodeCase {
         let rule = rng.pick(&Rule::ALL);
         list = break_list(rng, list, rule);
     }
-    NodeCase {
-        list,
-        images,
-        otadata,
-        settings,
-        slot,
-        running,
-    }
+    NodeCase { list, images, otadata, settings, slot, target, running }
 }
 
 fn settings(rng: &mut Rng, factory: bool) -> ffi::Settings {
     let on = |rng: &mut Rng| rng.pick(&[1, 1, 1, 2, 0x80, 0xFF]);
     let rollback = if rng.chance(65) { on(rng) } else { 0 };
     let refused = factory || rollback == 0;
-    let anti_rollback = if rng.chance(if refused { 6 } else { 60 }) {
-        on(rng)
-    } else {
-        0
-    };
-    ffi::Settings {
-        chip_id: chip_id(rng),
-        efuse: efuse(rng),
-        rollback,
-        anti_rollback,
-    }
+    let anti_rollback = if rng.chance(if refused { 6 } else { 60 }) { on(rng) } else { 0 };
+    ffi::Settings { chip_id: chip_id(rng), efuse: efuse(rng), rollback, anti_rollback }
 }
 
 /// A register: some of the lowest bits, or any.
@@ -697,8 +633,8 @@ pub fn efuse(rng: &mut Rng) -> u32 {
     }
 }
 
-/// A slot to ask for: most often one that a record names.
-fn slot(rng: &mut Rng, otadata: &[u8], n: u32) -> u32 {
+/// A slot that a record names, most often.
+fn named_slot(rng: &mut Rng, otadata: &[u8], n: u32) -> u32 {
     let readings = sector::readings(otadata);
     let named = match rng.below(20) {
         0..=9 => sector::active(&readings).and_then(|number| readings[number]),
@@ -706,21 +642,14 @@ fn slot(rng: &mut Rng, otadata: &[u8], n: u32) -> u32 {
         13..=15 => readings[1],
         _ => None,
     };
-    match named {
-        Some(record) => record.slot(n),
-        None if rng.chance(70) => rng.below(n as usize) as u32,
-        None => rng.pick(&[
-            n,
-            n + 1,
-            7,
-            8,
-            16,
-            255,
-            256,
-            0x1_0000,
-            0x8000_0000,
-            0xFFFF_FFFE,
-            0xFFFF_FFFF,
-        ]),
+    named.map_or_else(|| any_slot(rng, n), |record| record.slot(n))
+}
+
+/// A slot, or now and then a number that isn't below n.
+fn any_slot(rng: &mut Rng, n: u32) -> u32 {
+    if rng.chance(85) {
+        rng.below(n as usize) as u32
+    } else {
+        rng.pick(&[n, n + 1, 7, 8, 16, 255, 256, 0x1_0000, 0x8000_0000, 0xFFFF_FFFE, 0xFFFF_FFFF])
     }
 }

@@ -29,10 +29,7 @@ pub struct Facts {
 /// Checks an image for a chip. The tests run in the order of their numbers, so the lowest that applies is given.
 pub fn check(image: &[u8], chip_id: u16) -> Result<Facts, ImageRefusal> {
     let test = |right: bool, number: u32, place: usize| {
-        right.then_some(()).ok_or(ImageRefusal {
-            number,
-            place: place as u64,
-        })
+        right.then_some(()).ok_or(ImageRefusal { number, place: place as u64 })
     };
     test(image.len() >= IMAGE_MIN, 20, 0)?;
     test(image[0] == MAGIC, 21, 0)?;
@@ -61,12 +58,7 @@ pub fn check(image: &[u8], chip_id: u16) -> Result<Facts, ImageRefusal> {
     test(image[padded - 1] == checksum, 28, padded - 1)?;
     let version = word_at(image, VERSION_PLACE);
     test(version <= VERSION_MAX, 29, VERSION_PLACE)?;
-    Ok(Facts {
-        length: length as u64,
-        entry: word_at(image, 4),
-        version,
-        segments: count.into(),
-    })
+    Ok(Facts { length: length as u64, entry: word_at(image, 4), version, segments: count.into() })
 }
 
 /// The data of the segment whose header is at `place`, or none if it passes the end or its length isn't a multiple of 4.
@@ -89,15 +81,7 @@ mod tests {
     fn the_smallest_image() {
         let mut image = plain_image(0, 1, 256, false);
         assert_eq!((image.len(), image[303]), (304, 0xEE));
-        assert_eq!(
-            check(&image, 0),
-            Ok(Facts {
-                length: 304,
-                entry: 0x4008_0000,
-                version: 1,
-                segments: 1
-            })
-        );
+        assert_eq!(check(&image, 0), Ok(Facts { length: 304, entry: 0x4008_0000, version: 1, segments: 1 }));
         image = plain_image(0, 1, 256, true);
         assert_eq!(check(&image, 0).unwrap().length, 336);
         image.truncate(335);
@@ -110,13 +94,7 @@ mod tests {
         assert_eq!(check(&image, 0).unwrap().length, 564_128);
         let mut wrong = image.clone();
         wrong[0x89B7F] ^= 1;
-        assert_eq!(
-            check(&wrong, 0),
-            Err(ImageRefusal {
-                number: 28,
-                place: 0x89B7F
-            })
-        );
+        assert_eq!(check(&wrong, 0), Err(ImageRefusal { number: 28, place: 0x89B7F }));
     }
 
     #[test]
@@ -136,20 +114,10 @@ mod tests {
     #[test]
     fn the_lowest_number_is_given() {
         let image = plain_image(5, 33, 256, false);
-        let number = |image: &[u8]| {
-            check(image, 5)
-                .map_err(|refusal| (refusal.number, refusal.place))
-                .unwrap_err()
-        };
+        let number = |image: &[u8]| check(image, 5).map_err(|refusal| (refusal.number, refusal.place)).unwrap_err();
         assert_eq!(number(&image), (29, 36));
         let mut worse = image.clone();
-        for (place, expected) in [
-            (303, (28, 303)),
-            (32, (26, 32)),
-            (28, (25, 24)),
-            (23, (24, 23)),
-            (13, (23, 12)),
-        ] {
+        for (place, expected) in [(303, (28, 303)), (32, (26, 32)), (28, (25, 24)), (23, (24, 23)), (13, (23, 12))] {
             worse[place] ^= 0xFE;
             assert_eq!(number(&worse), expected);
         }

@@ -46,10 +46,7 @@ pub fn check(list: &[u32], flash_len: usize) -> Result<Partitions, Refusal> {
         parts.push(offset..end);
         let place = match subtype {
             FACTORY => &mut factory,
-            _ => subtype
-                .checked_sub(SLOT_0)
-                .and_then(|slot| slots.get_mut(slot as usize))
-                .ok_or(Refusal::List)?,
+            _ => subtype.checked_sub(SLOT_0).and_then(|slot| slots.get_mut(slot as usize)).ok_or(Refusal::List)?,
         };
         if place.replace(offset as usize..end as usize).is_some() {
             return Err(Refusal::List);
@@ -60,10 +57,7 @@ pub fn check(list: &[u32], flash_len: usize) -> Result<Partitions, Refusal> {
     if n < SLOTS_MIN || gap {
         return Err(Refusal::List);
     }
-    Ok(Partitions {
-        factory,
-        slots: slots.into_iter().flatten().collect(),
-    })
+    Ok(Partitions { factory, slots: slots.into_iter().flatten().collect() })
 }
 
 #[cfg(test)]
@@ -88,11 +82,7 @@ mod tests {
     fn each_rule_broken() {
         let entry = |subtype: u32, page: u32| [subtype, page * 0x1_0000, 0x1000];
         let slots = |subtypes: &[u32]| {
-            subtypes
-                .iter()
-                .zip(0..)
-                .flat_map(|(subtype, page)| entry(*subtype, page))
-                .collect::<Vec<u32>>()
+            subtypes.iter().zip(0..).flat_map(|(subtype, page)| entry(*subtype, page)).collect::<Vec<u32>>()
         };
         assert!(check(&slots(&[16, 17]), FLASH).is_ok());
         assert!(check(&slots(&[23, 16, 0, 17, 22, 18, 21, 19, 20]), FLASH).is_ok());
@@ -113,14 +103,7 @@ mod tests {
         }
         let good = slots(&[16, 17]);
         assert_eq!(check(&good[..5], FLASH), Err(Refusal::List));
-        for (place, word) in [
-            (1, 0x1000),
-            (1, 0x1_0000),
-            (2, 0),
-            (2, 0x1001),
-            (2, 0x1_1000),
-            (4, 0xFFFF_0000),
-        ] {
+        for (place, word) in [(1, 0x1000), (1, 0x1_0000), (2, 0), (2, 0x1001), (2, 0x1_1000), (4, 0xFFFF_0000)] {
             let mut list = good.clone();
             list[place] = word;
             assert_eq!(check(&list, FLASH), Err(Refusal::List), "{list:x?}");

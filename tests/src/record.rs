@@ -18,14 +18,8 @@ pub enum State {
 }
 
 impl State {
-    pub const ALL: [State; 6] = [
-        State::New,
-        State::Pending,
-        State::Valid,
-        State::Invalid,
-        State::Aborted,
-        State::Undefined,
-    ];
+    pub const ALL: [State; 6] =
+        [State::New, State::Pending, State::Valid, State::Invalid, State::Aborted, State::Undefined];
 
     pub fn word(self) -> u32 {
         match self {
@@ -103,9 +97,10 @@ pub fn raw_bytes(sequence: u32, label: &[u8; LABEL_SIZE], state: u32) -> [u8; RE
 
 /// The check word of a sequence: the CRC of its four bytes, register starting at 0, complemented.
 pub fn check_word(sequence: u32) -> u32 {
-    let register = sequence.to_le_bytes().iter().fold(0, |register: u32, byte| {
-        (register >> 8) ^ CRC_TABLE[((register ^ u32::from(*byte)) & 0xFF) as usize]
-    });
+    let register = sequence
+        .to_le_bytes()
+        .iter()
+        .fold(0, |register: u32, byte| (register >> 8) ^ CRC_TABLE[((register ^ u32::from(*byte)) & 0xFF) as usize]);
     !register
 }
 
@@ -149,10 +144,7 @@ mod tests {
         assert_eq!(make(1, &[0xFF; LABEL_SIZE], 0xFFFF_FFFF), Ok(bytes));
         let record = Record::read(&bytes).unwrap();
         assert_eq!(record.bytes(), bytes);
-        assert_eq!(
-            (record.sequence, record.state, record.slot(2)),
-            (1, State::Undefined, 0)
-        );
+        assert_eq!((record.sequence, record.state, record.slot(2)), (1, State::Undefined, 0));
     }
 
     #[test]

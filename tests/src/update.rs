@@ -22,33 +22,16 @@ pub fn set_boot(list: &[u32], flash: &[u8], otadata: &mut [u8], settings: &Setti
         Some((number, record)) => (next_naming(record.sequence, slot, n)?, 1 - number),
         None => (slot + 1, 0),
     };
-    let state = if settings.rollback {
-        State::New
-    } else {
-        State::Undefined
-    };
-    rewrite_in(
-        otadata,
-        number,
-        &Record {
-            sequence,
-            label: [0xFF; LABEL_SIZE],
-            state,
-        },
-    );
+    let state = if settings.rollback { State::New } else { State::Undefined };
+    rewrite_in(otadata, number, &Record { sequence, label: [0xFF; LABEL_SIZE], state });
     Ok(())
 }
 
 /// The smallest sequence above `sequence` that names `slot` of n.
 pub fn next_naming(sequence: u32, slot: u32, n: u32) -> Result<u32, Refusal> {
     let above = u64::from(sequence) + 1;
-    let next = (above..)
-        .find(|s| (s - 1) % u64::from(n) == u64::from(slot))
-        .expect("one of n in a row");
-    u32::try_from(next)
-        .ok()
-        .filter(|s| *s <= HIGHEST_SEQUENCE)
-        .ok_or(Refusal::SequenceEnd)
+    let next = (above..).find(|s| (s - 1) % u64::from(n) == u64::from(slot)).expect("one of n in a row");
+    u32::try_from(next).ok().filter(|s| *s <= HIGHEST_SEQUENCE).ok_or(Refusal::SequenceEnd)
 }
 
 /// Marks the running app's record valid, and gives the register to burn after that.
@@ -66,11 +49,7 @@ pub fn mark_valid(
     if record.state != State::Valid {
         rewrite_in(otadata, number, &record.in_state(State::Valid));
     }
-    Ok(if settings.anti_rollback {
-        efuse_raise(settings.efuse, version)
-    } else {
-        settings.efuse
-    })
+    Ok(if settings.anti_rollback { efuse_raise(settings.efuse, version) } else { settings.efuse })
 }
 
 /// Marks the running app's record invalid, unless boot would then find nothing.
@@ -142,9 +121,7 @@ fn test_slot(partitions: &Partitions, slot: u32) -> Result<(), Refusal> {
 
 /// Test 8 of the marks: the active record names the running slot.
 fn test_running(partitions: &Partitions, otadata: &[u8], running: u32) -> Result<(usize, Record), Refusal> {
-    active_of(otadata)
-        .filter(|(_, record)| record.slot(partitions.n()) == running)
-        .ok_or(Refusal::NotNamed)
+    active_of(otadata).filter(|(_, record)| record.slot(partitions.n()) == running).ok_or(Refusal::NotNamed)
 }
 
 /// Tests 5 and 6: the app's image, then its version, which is given.
@@ -172,17 +149,9 @@ mod tests {
     use crate::record::make;
     use crate::refusal::ImageRefusal;
 
-    const OFF: Settings = Settings {
-        chip_id: 0,
-        efuse: 0,
-        rollback: false,
-        anti_rollback: false,
-    };
+    const OFF: Settings = Settings { chip_id: 0, efuse: 0, rollback: false, anti_rollback: false };
     const ROLLBACK: Settings = Settings { rollback: true, ..OFF };
-    const ANTI: Settings = Settings {
-        anti_rollback: true,
-        ..ROLLBACK
-    };
+    const ANTI: Settings = Settings { anti_rollback: true, ..ROLLBACK };
 
     fn record(sequence: u32, state: State) -> Option<[u8; 32]> {
         Some(make(sequence, &[0xFF; 20], state.word()).unwrap())
@@ -206,10 +175,7 @@ mod tests {
         assert_eq!(otadata, two_sectors(record(5, State::Valid), record(6, State::New)));
         let mut otadata = two_sectors(None, record(7, State::Invalid));
         assert_eq!(set_boot(&list, &flash, &mut otadata, &OFF, 1), Ok(()));
-        assert_eq!(
-            otadata,
-            two_sectors(record(2, State::Undefined), record(7, State::Invalid))
-        );
+        assert_eq!(otadata, two_sectors(record(2, State::Undefined), record(7, State::Invalid)));
     }
 
     #[test]
@@ -218,23 +184,11 @@ mod tests {
         let mut otadata = two_sectors(record(4_294_967_294, State::Pending), None);
         let mut set = |settings, slot| set_boot(&list, &flash, &mut otadata, settings, slot);
         assert_eq!(set(&ANTI, 2), Err(Refusal::NoSuchSlot));
-        assert_eq!(
-            set(&ANTI, 1),
-            Err(Refusal::Image(ImageRefusal { number: 21, place: 0 }))
-        );
+        assert_eq!(set(&ANTI, 1), Err(Refusal::Image(ImageRefusal { number: 21, place: 0 })));
         assert_eq!(set(&Settings { efuse: 3, ..ANTI }, 0), Err(Refusal::TooOld));
         assert_eq!(set(&ROLLBACK, 0), Err(Refusal::Pending));
         assert_eq!(set(&OFF, 0), Err(Refusal::SequenceEnd));
-        assert_eq!(
-            set(
-                &Settings {
-                    rollback: false,
-                    ..ANTI
-                },
-                0
-            ),
-            Err(Refusal::Settings)
-        );
+        assert_eq!(set(&Settings { rollback: false, ..ANTI }, 0), Err(Refusal::Settings));
     }
 
     #[test]
@@ -242,19 +196,13 @@ mod tests {
         let (list, flash) = plain_node(&[Some(1), Some(2)], None);
         let before = two_sectors(record(1, State::Valid), record(2, State::Pending));
         let mut otadata = before.clone();
-        assert_eq!(
-            mark_valid(&list, &flash, &mut otadata, &ANTI, 0),
-            Err(Refusal::NotNamed)
-        );
+        assert_eq!(mark_valid(&list, &flash, &mut otadata, &ANTI, 0), Err(Refusal::NotNamed));
         assert_eq!(otadata, before);
         assert_eq!(mark_valid(&list, &flash, &mut otadata, &ANTI, 1), Ok(3));
         assert_eq!(otadata, two_sectors(record(1, State::Valid), record(2, State::Valid)));
         assert_eq!(mark_invalid(&list, &flash, &mut otadata, &ANTI, 1), Ok(()));
         assert_eq!(otadata, two_sectors(record(1, State::Valid), record(2, State::Invalid)));
-        assert_eq!(
-            mark_invalid(&list, &flash, &mut otadata, &ANTI, 0),
-            Err(Refusal::NoFallback)
-        );
+        assert_eq!(mark_invalid(&list, &flash, &mut otadata, &ANTI, 0), Err(Refusal::NoFallback));
         assert_eq!(otadata, two_sectors(record(1, State::Valid), record(2, State::Invalid)));
     }
 

@@ -1,1 +1,55 @@
-fn main() {}
+//! Holds the proved library to the model: every call on many random cases, every byte compared, and a rewrite cut at every
+//! place.
+//!
+//! `differential` runs all, `differential SEED` with another seed, `differential SEED CASE` one case alone.
+
+mod calls;
+mod cuts;
+mod examples;
+mod tally;
+
+use calls::Run;
+use std::time::Instant;
+use tally::AT_LEAST;
+
+const SEED: u64 = 20_260_101;
+const CASES: u64 = 60_000;
+
+fn main() {
+    let mut arguments = std::env::args().skip(1).map(|word| word.parse::<u64>().expect("a number"));
+    let seed = arguments.next().unwrap_or(SEED);
+    let mut run = Run::new(seed);
+    if let Some(case) = arguments.next() {
+        run.case(case);
+        println!("differential: seed {seed}, case {case}: the library and the model agree");
+        return;
+    }
+
+    let start = Instant::now();
+    println!("differential: seed {seed}, {CASES} cases\n");
+    let examples = examples::run();
+    (0..CASES).for_each(|case| run.case(case));
+    run.assert_flash_erased();
+    let cuts = cuts::run();
+
+    run.tally.print();
+    println!();
+    println!("{} rewrites cut at {} places each, {} cuts", cuts.rewrites, cuts.cuts / cuts.rewrites, cuts.cuts);
+    println!(
+        "  the sector then reads as the old record {}, the new {}, none {}",
+        cuts.reads_old, cuts.reads_new, cuts.reads_none
+    );
+    println!(
+        "  boot starts the rewritten sector's app {}, the untouched one's {}",
+        cuts.starts_rewritten, cuts.starts_untouched
+    );
+    println!();
+    run.tally.assert_met(&calls::to_be_met());
+    println!(
+        "differential: seed {seed}: {} calls of {CASES} cases, {} cuts and {examples} groups of examples agree; \
+         every number at least {AT_LEAST} times; {:.1} s",
+        run.tally.calls,
+        cuts.cuts,
+        start.elapsed().as_secs_f64()
+    );
+}

@@ -1,0 +1,569 @@
+//! Each call of the library beside the model's, on the same bytes.
+
+use crate::tally::Tally;
+use ota_tests::boot::{self, App};
+use ota_tests::ffi;
+use ota_tests::generate::{self, NodeCase, Rule, FLASH_SHARED};
+use ota_tests::record::{self, State, RECORD_SIZE};
+use ota_tests::refusal::{number_of, Refusal};
+use ota_tests::rng::Rng;
+use ota_tests::sector::{self, SECTOR_SIZE, STORES};
+use ota_tests::settings::{self, Settings};
+use ota_tests::{image, partition, update};
+use std::fmt::{Debug, Write};
+
+/// What must come up besides the numbers.
+pub fn to_be_met() -> Vec<String> {
+    let mut things: Vec<String> = Rule::ALL.iter().map(|rule| format!("check_list: rule {rule:?} broken")).collect();
+    things.extend((2..=8).map(|n| format!("boot: {n} slots")));
+    things.extend(State::ALL.iter().map(|state| format!("state_query: {state:?}")));
+    things.extend(
+        [
+            "check_list: with factory",
+            "check_list: without factory",
+            "read_sector: a record",
+            "read_sector: none",
+            "read_sector: wrong size",
+            "active: sector 0",
+            "active: sector 1",
+            "active: none",
+            "active: a tie",
+            "active: a sector of wrong size",
+            "boot: through the active record",
+            "boot: through the other record",
+            "boot: factory",
+            "boot: by the search",
+            "boot: by the search, register raised",
+            "boot: a record marked aborted",
+            "boot: both records marked aborted",
+            "boot: a record marked pending",
+            "boot: 10 after a record was marked aborted",
+            "set_boot: named already",
+            "set_boot: no active record",
+            "set_boot: sector 0 rewritten",
+            "set_boot: sector 1 rewritten",
+            "mark_valid: valid already",
+            "mark_valid: register raised",
+            "mark_invalid: sector 0 rewritten",
+            "mark_invalid: sector 1 rewritten",
+            "state_query: not through the active record",
+            "state_query: a tie",
+            "next_slot: from factory",
+            "next_slot: from factory, not listed",
+            "next_slot: from the last slot",
+        ]
+        .map(String::from),
+    );
+    things
+}
+
+/// A run over many cases, with the flash that they share: erased, but for what a case writes and erases again.
+pub struct Run {
+    seed: u64,
+    case: u64,
+    rng: Rng,
+    flash: Vec<u8>,
+    pub tally: Tally,
+}
+
+impl Run {
+    pub fn new(seed: u64) -> Run {
+        Run { seed, case: 0, rng: Rng::new(seed), flash: vec![0xFF; FLASH_SHARED], tally: Tally::default() }
+    }
+
+    /// One case of everything; it depends on the seed and its number alone.
+    pub fn case(&mut self, case: u64) {
+        self.case = case;
+        self.rng = Rng::of_case(self.seed, case);
+        self.words();
+        self.make_record();
+        self.sectors();
+        self.stores();
+        self.check_list();
+        self.check_image();
+        self.node();
+    }
+
+    /// The library has written nothing to the flash.
+    pub fn assert_flash_erased(&self) {
+        assert!(self.flash.iter().all(|byte| *byte == 0xFF), "the flash was changed (seed {})", self.seed);
+    }
+
+    fn words(&mut self) {
+        let rng = &mut self.rng;
+        let sequence = generate::sequence(rng);
+        let efuse = generate::efuse(rng);
+        let version = rng.pick(&[0, 1, 2, 5, 16, 31, 32, 33, 64, 0x8000_0000, 0xFFFF_FFFF, efuse.count_ones()]);
+        self.same("check_word", &sequence, ffi::check_word(sequence), record::check_word(sequence));
+        self.same("efuse_version", &efuse, ffi::efuse_version(efuse), settings::efuse_version(efuse));
+        let raised = settings::efuse_raise(efuse, version);
+        self.same("efuse_raise", &(efuse, version), ffi::efuse_raise(efuse, version), raised);
+        for call in ["check_word", "efuse_version", "efuse_raise"] {
+            self.tally.met(call);
+            self.tally.calls += 1;
+        }
+    }
+
+    fn make_record(&mut self) {
+        let rng = &mut self.rng;
+        let (sequence, label, state) = (generate::sequence(rng), generate::label(rng), generate::state_word(rng));
+        let library = with_out(rng, |out| ffi::make_record(sequence, &label, state, out));
+        let made = record::make(sequence, &label, state);
+        let number = number_of(&made);
+        self.same("make_record", &(sequence, label, state), library, (number, made.unwrap_or([0; RECORD_SIZE])));
+        self.tally.number("make_record", number);
+    }
+
+    /// The readings of two sectors, and the active record.
+    fn sectors(&mut self) {
+        let rng = &mut self.rng;
+        let mut sectors = generate::sectors(rng, 2);
+        for sector in &mut sectors {
+            if rng.chance(8) {
+                sector.resize(generate::wrong_length(rng, SECTOR_SIZE), 0xFF);
+            }
+        }
+        let inputs = sectors.each_ref().map(|sector| hex(&sector[..sector.len().min(RECORD_SIZE)]) + sizes(sector));
+        let unchanged = sectors.clone();
+
+        for sector in &sectors {
+            let library = with_out(rng, |out| ffi::read_sector(sector, out));
+            let reading = sector::read(sector);
+            let model = reading.map_or((0, [0, 0]), |record| (1, [record.sequence, record.state.word()]));
+            assert_same(self.seed, self.case, "read_sector", &inputs, library, model);
+            self.tally.met(match reading {
+                Some(_) => "read_sector: a record",
+                None if sector.len() != SECTOR_SIZE => "read_sector: wrong size",
+                None => "read_sector: none",
+            });
+            self.tally.calls += 1;
+        }
+
+        let [first, second] = &sectors;
+        let mut before = [0; RECORD_SIZE];
+        rng.fill(&mut before);
+        let mut record = before;
+        let number = ffi::active(first, second, &mut record);
+        let part = sector::active_record(first, second);
+        let model = if part.is_empty() { before.to_vec() } else { part.to_vec() };
+        self.same("active", &inputs, (number, record.to_vec()), (part.len() as u32, model));
+        self.same("active, sectors", &inputs, &sectors, &unchanged);
+        let readings = [sector::read(first), sector::read(second)];
+        self.tally.met(match sector::active(&readings) {
+            Some(0) => "active: sector 0",
+            Some(_) => "active: sector 1",
+            None => "active: none",
+        });
+        if let [Some(first), Some(second)] = readings {
+            if first.sequence == second.sequence && first.usable() && second.usable() {
+                self.tally.met("active: a tie");
+            }
+        }
+        if first.len() != SECTOR_SIZE || second.len() != SECTOR_SIZE {
+            self.tally.met("active: a sector of wrong size");
+        }
+        self.tally.calls += 1;
+    }
+
+    /// A single store and a whole rewrite.
+    fn stores(&mut self) {
+        let rng = &mut self.rng;
+        let sequence = generate::sequence(rng);
+        let mut sector = generate::sector(rng, sequence);
+        let mut record = generate::record(rng, sequence ^ 1).to_vec();
+        if rng.chance(10) {
+            sector.resize(generate::wrong_length(rng, SECTOR_SIZE), 0x5A);
+        }
+        if rng.chance(10) {
+            record.resize(generate::wrong_length(rng, RECORD_SIZE), 0x5A);
+        }
+        let m = match rng.below(10) {
+            0..=3 => rng.below(SECTOR_SIZE),
+            4..=7 => SECTOR_SIZE + rng.below(RECORD_SIZE),
+            8 => rng.pick(&[0, SECTOR_SIZE - 1, SECTOR_SIZE, STORES - 1]),
+            _ => rng.pick(&[STORES, STORES + 1, 0x1_0000, 1 << 32, usize::MAX]),
+        };
+        let inputs = (m, hex(&record), hex(&sector[..sector.len().min(RECORD_SIZE)]) + sizes(&sector));
+        let record_before = record.clone();
+
+        let (number, bytes) = lend(rng, &sector, |sector| ffi::store(sector, &record, m));
+        let mut model = sector.clone();
+        let reply = sector::store(&mut model, &record, m);
+        self.same("store", &inputs, number, number_of(&reply));
+        self.same_bytes("store", &inputs, &bytes, &model);
+        self.tally.number("store", number);
+
+        let (number, bytes) = lend(&mut self.rng, &sector, |sector| ffi::rewrite(sector, &record));
+        let mut model = sector;
+        let reply = sector::rewrite(&mut model, &record);
+        self.same("rewrite", &inputs, number, number_of(&reply));
+        self.same_bytes("rewrite", &inputs, &bytes, &model);
+        self.same_bytes("rewrite, record", &inputs, &record, &record_before);
+        self.tally.number("rewrite", number);
+    }
+
+    fn check_list(&mut self) {
+        let list = generate::lone_list(&mut self.rng);
+        let words = list.words.clone();
+        let library = with_out(&mut self.rng, |out| ffi::check_list(&words, list.flash_len, out));
+        let reply = partition::check(&list.words, list.flash_len);
+        let out = reply.as_ref().map_or([0, 0], |accepted| [accepted.n(), accepted.factory.is_some().into()]);
+        let number = number_of(&reply);
+        self.same("check_list", &list, library, (number, out));
+        self.same("check_list, list", &list, &words, &list.words);
+        self.tally.number("check_list", number);
+        if let Some(rule) = list.broken {
+            assert_eq!(number, 1, "the generator broke no rule: {list:x?}");
+            self.tally.met(format!("check_list: rule {rule:?} broken"));
+        }
+        if let Ok(accepted) = reply {
+            let with = if accepted.factory.is_some() { "with" } else { "without" };
+            self.tally.met(format!("check_list: {with} factory"));
+        }
+    }
+
+    fn check_image(&mut self) {
+        let (image, mut chip_id) = generate::lone_image(&mut self.rng);
+        if self.rng.chance(3) {
+            chip_id ^= 1 << self.rng.below(16);
+        }
+        let lent = image.clone();
+        let library = with_out(&mut self.rng, |out| ffi::check_image(&lent, chip_id, out));
+        let model = match image::check(&image, chip_id) {
+            Ok(facts) => (0, [facts.length, facts.entry.into(), facts.version.into(), facts.segments.into()]),
+            Err(refusal) => (refusal.number, [refusal.place, 0, 0, 0]),
+        };
+        let inputs = (chip_id, image.len(), hex(&image[..image.len().min(400)]));
+        self.same("check_image", &inputs, library, model);
+        self.same_bytes("check_image", &inputs, &lent, &image);
+        self.tally.number("check_image", model.0);
+    }
+
+    /// The six calls on a node, each on the same bytes.
+    fn node(&mut self) {
+        let case = generate::node(&mut self.rng);
+        for (offset, image) in &case.images {
+            self.flash[*offset..][..image.len()].copy_from_slice(image);
+        }
+        let list = case.list.words.clone();
+        self.boot(&case);
+        self.set_boot(&case);
+        self.mark_valid(&case);
+        self.mark_invalid(&case);
+        self.state_query(&case);
+        self.next_slot(&case);
+        let inputs = Inputs(&case);
+        self.same("node, list", &inputs, &list, &case.list.words);
+        for (offset, image) in &case.images {
+            self.same_bytes("node, flash", &inputs, &self.flash[*offset..][..image.len()], image);
+        }
+        for (offset, image) in &case.images {
+            self.flash[*offset..][..image.len()].fill(0xFF);
+        }
+    }
+
+    fn boot(&mut self, case: &NodeCase) {
+        let (library, bytes) = self.on_node(case, |node, rng| with_out(rng, |out| ffi::boot(node, case.settings, out)));
+        let settings = plain(case.settings);
+        let mut otadata = case.otadata.clone();
+        let reply = boot::boot(&case.list.words, self.flash_of(case), &mut otadata, &settings);
+        let number = number_of(&reply);
+        let out = match reply {
+            Ok(started) => {
+                let (kind, slot) = match started.app {
+                    App::Factory => (1, 0),
+                    App::Slot(slot) => (2, slot),
+                };
+                [kind, slot, started.sector.unwrap_or(2) as u32, started.efuse]
+            }
+            Err(_) => [0, 0, 2, settings.efuse],
+        };
+        self.same("boot", &Inputs(case), library, (number, out));
+        self.same_bytes("boot", &Inputs(case), &bytes, &otadata);
+        self.tally.number("boot", number);
+
+        if number != 0 && number != 10 {
+            return;
+        }
+        self.tally.met(format!("boot: {} slots", case.list.n));
+        let (before, after) = (sector::readings(&case.otadata), sector::readings(&otadata));
+        let marked = |state| (0..2).filter(|i| before[*i] != after[*i] && after[*i].unwrap().state == state).count();
+        match marked(State::Aborted) {
+            0 => {}
+            1 => self.tally.met("boot: a record marked aborted"),
+            _ => self.tally.met("boot: both records marked aborted"),
+        }
+        if marked(State::Aborted) > 0 && number == 10 {
+            self.tally.met("boot: 10 after a record was marked aborted");
+        }
+        if marked(State::Pending) > 0 {
+            self.tally.met("boot: a record marked pending");
+        }
+        if let Ok(started) = reply {
+            let after = sector::readings(&otadata);
+            self.tally.met(match (started.app, started.sector) {
+                (App::Factory, _) => "boot: factory",
+                (_, None) if started.efuse != settings.efuse => "boot: by the search, register raised",
+                (_, None) => "boot: by the search",
+                (_, sector) if sector == sector::active(&after) => "boot: through the active record",
+                _ => "boot: through the other record",
+            });
+        }
+    }
+
+    fn set_boot(&mut self, case: &NodeCase) {
+        let (library, bytes) =
+            self.on_node(case, |node, rng| with_out(rng, |out| ffi::set_boot(node, case.settings, case.target, out)));
+        let settings = plain(case.settings);
+        let mut otadata = case.otadata.clone();
+        let reply = update::set_boot(&case.list.words, self.flash_of(case), &mut otadata, &settings, case.target);
+        let number = number_of(&reply);
+        let out = image_refusal(&reply);
+        self.same("set_boot", &Inputs(case), library, (number, out));
+        self.same_bytes("set_boot", &Inputs(case), &bytes, &otadata);
+        self.tally_with_image("set_boot", &reply);
+        if number == 0 {
+            if sector::active(&sector::readings(&case.otadata)).is_none() {
+                self.tally.met("set_boot: no active record");
+            }
+            self.tally.met(match rewritten(&case.otadata, &otadata) {
+                Some(0) => "set_boot: sector 0 rewritten",
+                Some(_) => "set_boot: sector 1 rewritten",
+                None => "set_boot: named already",
+            });
+        }
+    }
+
+    fn mark_valid(&mut self, case: &NodeCase) {
+        let (library, bytes) =
+            self.on_node(case, |node, rng| with_out(rng, |out| ffi::mark_valid(node, case.settings, case.slot, out)));
+        let settings = plain(case.settings);
+        let mut otadata = case.otadata.clone();
+        let reply = update::mark_valid(&case.list.words, self.flash_of(case), &mut otadata, &settings, case.slot);
+        let number = number_of(&reply);
+        let [image_number, place] = image_refusal(&reply);
+        let out = [reply.unwrap_or(settings.efuse).into(), image_number, place];
+        self.same("mark_valid", &Inputs(case), library, (number, out));
+        self.same_bytes("mark_valid", &Inputs(case), &bytes, &otadata);
+        self.tally_with_image("mark_valid", &reply);
+        if let Ok(register) = reply {
+            if otadata == case.otadata {
+                self.tally.met("mark_valid: valid already");
+            }
+            if register != settings.efuse {
+                self.tally.met("mark_valid: register raised");
+            }
+        }
+    }
+
+    fn mark_invalid(&mut self, case: &NodeCase) {
+        let (number, bytes) = self.on_node(case, |node, _| ffi::mark_invalid(node, case.settings, case.slot));
+        let settings = plain(case.settings);
+        let mut otadata = case.otadata.clone();
+        let reply = update::mark_invalid(&case.list.words, self.flash_of(case), &mut otadata, &settings, case.slot);
+        self.same("mark_invalid", &Inputs(case), number, number_of(&reply));
+        self.same_bytes("mark_invalid", &Inputs(case), &bytes, &otadata);
+        self.tally.number("mark_invalid", number);
+        if let Some(number) = rewritten(&case.otadata, &otadata) {
+            self.tally.met(format!("mark_invalid: sector {number} rewritten"));
+        }
+    }
+
+    fn state_query(&mut self, case: &NodeCase) {
+        let (library, bytes) =
+            self.on_node(case, |node, rng| with_out(rng, |out| ffi::state_query(node, case.slot, out)));
+        let reply = update::state_query(&case.list.words, self.flash_of(case), &case.otadata, case.slot);
+        let out = reply.map_or(0, State::word);
+        let number = number_of(&reply);
+        self.same("state_query", &Inputs(case), library, (number, [out]));
+        self.same_bytes("state_query", &Inputs(case), &bytes, &case.otadata);
+        self.tally.number("state_query", number);
+        if let Ok(state) = reply {
+            self.tally.met(format!("state_query: {state:?}"));
+            let readings = sector::readings(&case.otadata);
+            let names = |number: usize| readings[number].is_some_and(|record| record.slot(case.list.n) == case.slot);
+            if !sector::active(&readings).is_some_and(names) {
+                self.tally.met("state_query: not through the active record");
+                if let [Some(first), Some(second)] = readings {
+                    if first.sequence == second.sequence {
+                        self.tally.met("state_query: a tie");
+                    }
+                }
+            }
+        }
+    }
+
+    fn next_slot(&mut self, case: &NodeCase) {
+        let (library, bytes) =
+            self.on_node(case, |node, rng| with_out(rng, |out| ffi::next_slot(node, case.settings, case.running, out)));
+        let running = if case.running == ffi::RUNNING_FACTORY { App::Factory } else { App::Slot(case.running) };
+        let settings = plain(case.settings);
+        let reply = update::next_slot(&case.list.words, self.flash_of(case), &case.otadata, &settings, running);
+        let number = number_of(&reply);
+        self.same("next_slot", &Inputs(case), library, (number, [reply.unwrap_or(0)]));
+        self.same_bytes("next_slot", &Inputs(case), &bytes, &case.otadata);
+        self.tally.number("next_slot", number);
+        if number == 0 {
+            match running {
+                App::Factory if case.list.words.chunks(3).all(|entry| entry[0] != 0) => {
+                    self.tally.met("next_slot: from factory, not listed")
+                }
+                App::Factory => self.tally.met("next_slot: from factory"),
+                App::Slot(slot) if slot + 1 == case.list.n => self.tally.met("next_slot: from the last slot"),
+                _ => {}
+            }
+        }
+    }
+
+    fn flash_of(&self, case: &NodeCase) -> &[u8] {
+        &self.flash[..case.list.flash_len]
+    }
+
+    /// Lends the case's list, flash and a copy of its otadata to a call; gives the reply and otadata after it.
+    fn on_node<R>(&mut self, case: &NodeCase, call: impl FnOnce(ffi::Node, &mut Rng) -> R) -> (R, Vec<u8>) {
+        let flash = &self.flash[..case.list.flash_len];
+        let mut garbage = self.rng.clone();
+        lend(&mut self.rng, &case.otadata, |otadata| {
+            call(ffi::Node { list: &case.list.words, flash, otadata }, &mut garbage)
+        })
+    }
+
+    fn tally_with_image<T>(&mut self, call: &'static str, reply: &Result<T, Refusal>) {
+        self.tally.number(call, number_of(reply));
+        if let Err(Refusal::Image(refusal)) = reply {
+            self.tally.image_number(call, refusal.number);
+        }
+    }
+
+    fn same<T: PartialEq + Debug>(&self, call: &str, inputs: &dyn Debug, library: T, model: T) {
+        assert_same(self.seed, self.case, call, inputs, library, model);
+    }
+
+    /// Every byte, lent and handed back.
+    fn same_bytes(&self, call: &str, inputs: &dyn Debug, library: &[u8], model: &[u8]) {
+        if library != model {
+            let differ = library.iter().zip(model).position(|(library, model)| library != model);
+            let place = differ.unwrap_or(library.len().min(model.len()));
+            let bytes = |bytes: &[u8]| hex(&bytes[place..bytes.len().min(place + 32)]);
+            let (library, model) = (bytes(library), bytes(model));
+            let call = format!("{call}, bytes from {place}");
+            assert_same(self.seed, self.case, &call, inputs, library, model);
+        }
+    }
+}
+
+/// What the library gave is what the model gives.
+fn assert_same<T: PartialEq + Debug>(seed: u64, case: u64, call: &str, inputs: &dyn Debug, library: T, model: T) {
+    assert!(
+        library == model,
+        "{call} differs: seed {seed}, case {case}\n  library {library:x?}\n  model   {model:x?}\n  inputs  {inputs:x?}"
+    );
+}
+
+/// The settings as the model takes them.
+pub fn plain(settings: ffi::Settings) -> Settings {
+    Settings {
+        chip_id: settings.chip_id,
+        efuse: settings.efuse,
+        rollback: settings.rollback != 0,
+        anti_rollback: settings.anti_rollback != 0,
+    }
+}
+
+/// The image number and place that come with a 5, else zero.
+fn image_refusal<T>(reply: &Result<T, Refusal>) -> [u64; 2] {
+    match reply {
+        Err(Refusal::Image(refusal)) => [refusal.number.into(), refusal.place],
+        _ => [0, 0],
+    }
+}
+
+/// The sector in which the bytes differ.
+fn rewritten(before: &[u8], after: &[u8]) -> Option<usize> {
+    before.iter().zip(after).position(|(before, after)| before != after).map(|place| place / SECTOR_SIZE)
+}
+
+const GUARD: usize = 32;
+
+/// Lends a copy of the bytes to a call. Garbage stands on both sides of it and must stay.
+fn lend<R>(rng: &mut Rng, bytes: &[u8], call: impl FnOnce(&mut [u8]) -> R) -> (R, Vec<u8>) {
+    let mut guards = [0; 2 * GUARD];
+    rng.fill(&mut guards);
+    let (front, back) = guards.split_at(GUARD);
+    let mut all = [front, bytes, back].concat();
+    let end = GUARD + bytes.len();
+    let reply = call(&mut all[GUARD..end]);
+    assert!(all[..GUARD] == *front && all[end..] == *back, "a byte beside the lent ones was written");
+    all.truncate(end);
+    (reply, all.split_off(GUARD))
+}
+
+/// Gives a call an `out` full of garbage. Garbage stands on both sides of it too and must stay.
+fn with_out<T: Garbage, const N: usize>(rng: &mut Rng, call: impl FnOnce(&mut [T; N]) -> u32) -> (u32, [T; N]) {
+    let mut all: Vec<T> = (0..N + 8).map(|_| T::of(rng.next())).collect();
+    let before = all.clone();
+    let number = call((&mut all[4..4 + N]).try_into().unwrap());
+    assert!(all[..4] == before[..4] && all[4 + N..] == before[4 + N..], "a word beside `out` was written");
+    (number, all[4..4 + N].try_into().unwrap())
+}
+
+trait Garbage: Copy + PartialEq + Debug {
+    fn of(bits: u64) -> Self;
+}
+
+impl Garbage for u8 {
+    fn of(bits: u64) -> u8 {
+        bits as u8
+    }
+}
+
+impl Garbage for u32 {
+    fn of(bits: u64) -> u32 {
+        bits as u32
+    }
+}
+
+impl Garbage for u64 {
+    fn of(bits: u64) -> u64 {
+        bits
+    }
+}
+
+pub fn hex(bytes: &[u8]) -> String {
+    bytes.iter().fold(String::new(), |mut text, byte| {
+        let _ = write!(text, "{byte:02x}");
+        text
+    })
+}
+
+/// What to add to the text of a sector of wrong size.
+fn sizes(sector: &[u8]) -> &'static str {
+    match sector.len() {
+        SECTOR_SIZE => "",
+        length if length < SECTOR_SIZE => " (too short)",
+        _ => " (too long)",
+    }
+}
+
+/// A node's case as it is printed where the two differ.
+struct Inputs<'a>(&'a NodeCase);
+
+impl Debug for Inputs<'_> {
+    fn fmt(&self, f: &mut std::fmt::Formatter) -> std::fmt::Result {
+        let NodeCase { list, images, otadata, settings, slot, target, running } = self.0;
+        writeln!(f, "{settings:x?}, slot {slot:#x}, target {target:#x}, running {running:#x}")?;
+        writeln!(
+            f,
+            "  list of {} slots, {:?} broken, flash of {:#x}: {:x?}",
+            list.n, list.broken, list.flash_len, list.words
+        )?;
+        writeln!(f, "  otadata of {} bytes", otadata.len())?;
+        for sector in otadata.chunks(SECTOR_SIZE) {
+            writeln!(f, "    {}", hex(&sector[..sector.len().min(RECORD_SIZE)]))?;
+        }
+        for (offset, image) in images {
+            writeln!(f, "  image at {offset:#x}, {} bytes: {}", image.len(), hex(&image[..image.len().min(48)]))?;
+        }
+        Ok(())
+    }
+}
