@@ -1,0 +1,176 @@
+//! Times the proved library beside the model, an ordinary Rust implementation, and prints a Markdown table of the ratios.
+
+use ota_tests::ffi::{self, Node};
+use ota_tests::generate::{plain_image, two_sectors};
+use ota_tests::record::{check_word, make, State};
+use ota_tests::rng::Rng;
+use ota_tests::sector::SECTOR_SIZE;
+use ota_tests::settings::Settings;
+use ota_tests::{boot, image, sector};
+use std::hint::black_box;
+use std::time::Instant;
+
+/// Runs of each side, taking turns; the median counts.
+const RUNS: usize = 15;
+/// A run repeats the work until it takes about so long.
+const RUN_SECONDS: f64 = 0.02;
+
+fn main() {
+    println!(
+        "Median of {RUNS} runs of each side, taking turns, in one process on one core. Both sides are release builds."
+    );
+    println!("Buffers are warm: each side has done the work before it is timed, and nothing is cleared between runs.");
+    println!();
+    println!("| Work | Library | Rust model | Ratio |");
+    println!("|---|---:|---:|---:|");
+    check_words();
+    check_image("image check, 64 KiB", 64 << 10);
+    check_image("image check, 1.5 MiB", 3 << 19);
+    whole_rewrite();
+    boot_eight_slots();
+}
+
+/// Times both sides and prints a row of the table.
+fn row(name: &str, mut library: impl FnMut(), mut model: impl FnMut()) {
+    let repeats = [repeats(&mut library), repeats(&mut model)];
+    let mut times = [Vec::new(), Vec::new()];
+    for _ in 0..RUNS {
+        times[0].push(seconds(&mut library, repeats[0]));
+        times[1].push(seconds(&mut model, repeats[1]));
+    }
+    let [library, model] = times.map(|mut times| {
+        times.sort_by(f64::total_cmp);
+        times[RUNS / 2]
+    });
+    println!("| {name} | {} | {} | {:.2} |", readable(library), readable(model), library / model);
+}
+
+/// How often the work fits into a run.
+fn repeats(work: &mut impl FnMut()) -> u32 {
+    let mut repeats = 1;
+    while seconds(work, repeats) * f64::from(repeats) < RUN_SECONDS {
+        repeats *= 2;
+    }
+    repeats
+}
+
+/// The seconds that the work takes once, over so many repeats.
+fn seconds(work: &mut impl FnMut(), repeats: u32) -> f64 {
+    let start = Instant::now();
+    (0..repeats).for_each(|_| work());
+    start.elapsed().as_secs_f64() / f64::from(repeats)
+}
+
+fn readable(seconds: f64) -> String {
+    match seconds {
+        s if s >= 1e-3 => format!("{:.2} ms", s * 1e3),
+        s if s >= 1e-6 => format!("{:.2} µs", s * 1e6),
+        s => format!("{:.0} ns", s * 1e9),
+    }
+}
+
+fn check_words() {
+    let million = |word: fn(u32) -> u32| {
+        let sum = (1..=1_000_000).fold(0, |sum: u32, sequence| sum ^ word(black_box(sequence)));
+        black_box(sum);
+    };
+    assert!((1..=1_000).all(|sequence| ffi::check_word(sequence) == check_word(sequence)));
+    row("a million check words", || million(ffi::check_word), || million(check_word));
+}
+
+/// An image of exactly `length` bytes with a digest, one segment of random bytes.
+fn random_image(length: usize) -> Vec<u8> {
+    let data = length - 32 - 16 - 32;
+    let mut image = plain_image(0, 1, data, true);
+    assert_eq!(image.len(), length);
+    let before = image[40..32 + data].iter().fold(0, |sum, byte| sum ^ byte);
+    Rng::new(1).fill(&mut image[40..32 + data]);
+    let after = image[40..32 + data].iter().fold(0, |sum, byte| sum ^ byte);
+    image[length - 33] ^= before ^ after;
+    image
+}
+
+fn check_image(name: &str, length: usize) {
+    let image = random_image(length);
+    let library = |image: &[u8]| {
+        let mut out = [0; 4];
+        (ffi::check_image(image, 0, &mut out), out[0])
+    };
+    let model = |image: &[u8]| image::check(image, 0).map(|facts| facts.length);
+    assert_eq!((library(&image), model(&image)), ((0, length as u64), Ok(length as u64)));
+    row(
+        name,
+        || {
+            black_box(library(black_box(&image)));
+        },
+        || {
+            black_box(model(black_box(&image))).unwrap();
+        },
+    );
+}
+
+fn whole_rewrite() {
+    let record = make(1, &[0xFF; 20], State::Valid.word()).unwrap();
+    let mut sectors = [vec![0; SECTOR_SIZE], vec![0; SECTOR_SIZE], vec![0; SECTOR_SIZE]];
+    let [first, second, third] = &mut sectors;
+    row(
+        "whole rewrite (model: the same 4,128 stores)",
+        || assert_eq!(ffi::rewrite(black_box(first), black_box(&record)), 0),
+        || sector::rewrite(black_box(second), black_box(&record)).unwrap(),
+    );
+    row(
+        "whole rewrite (model: fill and copy)",
+        || assert_eq!(ffi::rewrite(black_box(first), black_box(&record)), 0),
+        || {
+            let sector = black_box(&mut *third);
+            sector.fill(0xFF);
+            sector[..32].copy_from_slice(black_box(&record));
+        },
+    );
+    assert!(sectors[0] == sectors[1] && sectors[1] == sectors[2]);
+}
+
+/// Eight slots, each with an image of 64 KiB.
+fn boot_eight_slots() {
+    const SLOT: usize = 64 << 10;
+    let list: Vec<u32> = (0..8).flat_map(|slot| [16 + slot, slot * SLOT as u32, SLOT as u32]).collect();
+    let flash = random_image(SLOT).repeat(8);
+    let record = |sequence| make(sequence, &[0xFF; 20], State::Valid.word()).ok();
+    time_boot(
+        "boot, eight slots, the active record's app passes",
+        &list,
+        &flash,
+        two_sectors(record(7), record(8)),
+        [2, 7, 1],
+    );
+
+    // The checksum of the first seven is wrong, so that all eight images are read to their end.
+    let mut damaged = flash;
+    (0..7).for_each(|slot| damaged[slot * SLOT + SLOT - 33] ^= 1);
+    time_boot(
+        "boot, eight slots, no record, only the last slot's app passes",
+        &list,
+        &damaged,
+        two_sectors(None, None),
+        [2, 7, 2],
+    );
+}
+
+fn time_boot(name: &str, list: &[u32], flash: &[u8], otadata: Vec<u8>, expected: [u32; 3]) {
+    let settings = ffi::Settings { chip_id: 0, efuse: 0, rollback: 1, anti_rollback: 0 };
+    let model_settings = Settings { chip_id: 0, efuse: 0, rollback: true, anti_rollback: false };
+    let [mut first, mut second] = [otadata.clone(), otadata.clone()];
+    row(
+        name,
+        || {
+            let mut out = [0; 4];
+            let node = Node { list: black_box(list), flash: black_box(flash), otadata: black_box(&mut first) };
+            assert_eq!((ffi::boot(node, settings, &mut out), &out[..3]), (0, &expected[..]));
+        },
+        || {
+            let started = boot::boot(black_box(list), black_box(flash), black_box(&mut second), &model_settings);
+            assert_eq!(started.unwrap().app, boot::App::Slot(expected[1]));
+        },
+    );
+    assert!(first == otadata && second == otadata);
+}
