@@ -65,7 +65,7 @@ pub fn check(image: &[u8], chip_id: u16) -> Result<Facts, ImageRefusal> {
 fn segment_data(image: &[u8], place: usize) -> Option<&[u8]> {
     let (header, rest) = image.get(place..)?.split_at_checked(SEGMENT_HEADER_SIZE)?;
     let length = word_at(header, 4) as usize;
-    if length % 4 == 0 {
+    if length.is_multiple_of(4) {
         rest.get(..length)
     } else {
         None

@@ -27,7 +27,7 @@ impl Partitions {
 
 /// Tests a list of triples of subtype, offset and size against a flash of `flash_len` bytes.
 pub fn check(list: &[u32], flash_len: usize) -> Result<Partitions, Refusal> {
-    if flash_len > FLASH_MAX || list.len() % 3 != 0 {
+    if flash_len > FLASH_MAX || !list.len().is_multiple_of(3) {
         return Err(Refusal::List);
     }
     let mut factory = None;
@@ -36,7 +36,7 @@ pub fn check(list: &[u32], flash_len: usize) -> Result<Partitions, Refusal> {
     for entry in list.chunks_exact(3) {
         let (subtype, offset, size) = (entry[0], u64::from(entry[1]), u64::from(entry[2]));
         let end = offset + size;
-        let aligned = offset % OFFSET_UNIT == 0 && size % SIZE_UNIT == 0;
+        let aligned = offset.is_multiple_of(OFFSET_UNIT) && size.is_multiple_of(SIZE_UNIT);
         if !aligned || size == 0 || end > flash_len as u64 {
             return Err(Refusal::List);
         }

@@ -5,10 +5,13 @@
 use crate::calls::{hex, plain};
 use ota_tests::boot::{boot, passes, App};
 use ota_tests::ffi::{self, Node};
-use ota_tests::generate::plain_node;
-use ota_tests::partition;
-use ota_tests::record::{make, Record, State};
+use ota_tests::generate::{self, plain_node};
+use ota_tests::image::Facts;
+use ota_tests::partition::{self, Partitions};
+use ota_tests::record::{make, Record, State, HIGHEST_SEQUENCE};
+use ota_tests::rng::Rng;
 use ota_tests::sector::{self, active, read, readings, OTADATA_SIZE, SECTOR_SIZE, STORES};
+use ota_tests::settings::Settings;
 
 /// The versions of the slots' apps; the last slot is erased.
 const SLOTS: [Option<u32>; 4] = [Some(3), Some(5), Some(1), None];
@@ -17,10 +20,14 @@ const OFF: ffi::Settings = ffi::Settings { chip_id: 0, efuse: 0b10_0110, rollbac
 const ROLLBACK: ffi::Settings = ffi::Settings { rollback: 1, ..OFF };
 const ANTI_ROLLBACK: ffi::Settings = ffi::Settings { anti_rollback: 1, ..ROLLBACK };
 
+/// Random lists of rewrites, beside the rewrites that are cut at every place.
+const LISTS: usize = 500;
+
 /// How many cuts were made, and what they left.
 #[derive(Default)]
 pub struct Cuts {
     pub rewrites: u64,
+    pub lists: u64,
     pub cuts: u64,
     pub reads_old: u64,
     pub reads_new: u64,
@@ -29,58 +36,10 @@ pub struct Cuts {
     pub starts_untouched: u64,
 }
 
-fn record(sequence: u32, label: u8, state: State) -> [u8; 32] {
-    make(sequence, &[label; 20], state.word()).unwrap()
-}
-
-/// A sector that holds a record, with any bytes after it.
-fn sector_with(record: [u8; 32], rest: u8) -> Vec<u8> {
-    let mut sector = vec![rest; SECTOR_SIZE];
-    sector[..32].copy_from_slice(&record);
-    sector
-}
-
-/// A sector as an earlier rewrite left it that the power cut.
-fn cut_at(mut sector: Vec<u8>, record: [u8; 32], cut: usize) -> Vec<u8> {
-    (0..cut).for_each(|m| assert_eq!(ffi::store(&mut sector, &record, m), 0));
-    sector
-}
-
-pub fn run() -> Cuts {
-    let blank = vec![0xFF; SECTOR_SIZE];
-    // Slots by sequence: 1 names slot 0, 2 slot 1, 3 slot 2, 4 slot 3 (erased), and so on.
-    let starts = [
-        blank.clone(),
-        sector_with(record(5, 0xFF, State::Valid), 0xFF),
-        sector_with(record(6, 0x00, State::New), 0x5A),
-        // Erasing the first byte, or the first two, leaves these records as they are.
-        sector_with(record(0x05FF, 0x61, State::Undefined), 0xFF),
-        sector_with(record(0x0007_FFFF, 0xFF, State::Aborted), 0x00),
-        cut_at(sector_with(record(5, 0xFF, State::Valid), 0xFF), record(7, 0xFF, State::New), 3),
-        cut_at(blank, record(10, 0x33, State::Valid), STORES - 3),
-    ];
-    let news = [
-        record(10, 0xFF, State::New),
-        record(9, 0xFF, State::Undefined),
-        record(8, 0x20, State::Valid),
-        record(14, 0xFF, State::Pending),
-        // Good before its last store.
-        record(0x01FF, 0xFF, State::New),
-        record(0xFFFF_FFFE, 0xFF, State::Invalid),
-        record(1, 0x00, State::Valid),
-    ];
-    let others = [record(9, 0xFF, State::Valid), record(6, 0x41, State::New)];
-
+pub fn run(seed: u64) -> Cuts {
     let mut cuts = Cuts::default();
-    for (turn, start) in starts.iter().enumerate() {
-        for (step, new) in news.iter().enumerate() {
-            // Each start meets each new record; sector, settings and the other record take turns.
-            let number = (turn + step) % 2;
-            let settings = [OFF, ROLLBACK, ANTI_ROLLBACK][(turn + step / 2) % 3];
-            let other = others[(turn / 2 + step) % 2];
-            rewrite(&mut cuts, start, new, number, &other, settings);
-        }
-    }
+    every_cut(&mut cuts);
+    lists_of_rewrites(&mut cuts, seed);
     for (what, count) in [
         ("the old record", cuts.reads_old),
         ("the new record", cuts.reads_new),
@@ -93,44 +52,166 @@ pub fn run() -> Cuts {
     cuts
 }
 
-/// One rewrite of sector `number` with the record `new`, cut before each of its stores and after the last.
-fn rewrite(cuts: &mut Cuts, start: &[u8], new: &[u8; 32], number: usize, other: &[u8; 32], settings: ffi::Settings) {
-    let (list, flash) = plain_node(&SLOTS, None);
-    let partitions = partition::check(&list, flash.len()).unwrap();
-    let n = partitions.n();
-    let model_settings = plain(settings);
-    let passing = |record: &Record| passes(&partitions, &flash, &model_settings, App::Slot(record.slot(n)));
-    let untouched = Record::read(other).unwrap();
-    assert!(untouched.usable() && passing(&untouched).is_some());
-    assert!(!(model_settings.rollback && untouched.state == State::Pending));
+/// Several rewrites, each cut at all 4,129 places.
+fn every_cut(cuts: &mut Cuts) {
+    let blank = vec![0xFF; SECTOR_SIZE];
+    // With four slots sequence 1 names slot 0, 2 slot 1, 3 slot 2, 4 slot 3 (erased), and so on.
+    let starts = [
+        blank.clone(),
+        sector_with(record(5, 0xFF, State::Valid), 0xFF),
+        sector_with(record(6, 0x00, State::New), 0x5A),
+        // Erasing the first byte, or the first two, leaves these records as they are.
+        sector_with(record(0x05FF, 0x61, State::Undefined), 0xFF),
+        sector_with(record(0x0007_FFFF, 0xFF, State::Aborted), 0x00),
+        // Left by a rewrite that was cut.
+        cut_at(sector_with(record(5, 0xFF, State::Valid), 0xFF), record(7, 0xFF, State::New), 3),
+        cut_at(blank, record(10, 0x33, State::Valid), STORES - 3),
+    ];
+    let news = [
+        record(10, 0xFF, State::New),
+        record(9, 0xFF, State::Undefined),
+        record(8, 0x20, State::Valid),
+        record(14, 0xFF, State::Pending),
+        // Good before its last store.
+        record(0x01FF, 0xFF, State::New),
+        record(HIGHEST_SEQUENCE, 0xFF, State::Invalid),
+        record(1, 0x00, State::Valid),
+    ];
+    let others = [record(9, 0xFF, State::Valid), record(6, 0x41, State::New)];
+    for (turn, start) in starts.iter().enumerate() {
+        for (step, new) in news.iter().enumerate() {
+            // Each start meets each new record; sector, settings, factory and the other record take turns.
+            let settings = [OFF, ROLLBACK, ANTI_ROLLBACK][(turn + step / 2) % 3];
+            let factory = (step % 3 == 0 && settings.anti_rollback == 0).then_some(9);
+            let other = others[(turn / 2 + step) % 2];
+            let mut setup = Setup::new(start, (turn + step) % 2, &other, settings, factory);
+            setup.rewrite(new, STORES, |setup, cut| setup.hold(cuts, start, new, cut));
+            cuts.rewrites += 1;
+        }
+    }
+}
 
-    let mut otadata = vec![0xFF; OTADATA_SIZE];
-    otadata[number * SECTOR_SIZE..][..SECTOR_SIZE].copy_from_slice(start);
-    otadata[(1 - number) * SECTOR_SIZE..][..SECTOR_SIZE].copy_from_slice(&sector_with(*other, 0xFF));
-    let mut model = otadata.clone();
-    let old = read(start);
-    cuts.rewrites += 1;
+/// Random lists of rewrites on one sector, each with its own record and cut, on the bytes that the one before left.
+fn lists_of_rewrites(cuts: &mut Cuts, seed: u64) {
+    let mut rng = Rng::new(seed);
+    for _ in 0..LISTS {
+        let settings = rng.pick(&[OFF, ROLLBACK, ANTI_ROLLBACK]);
+        let start = match rng.chance(30) {
+            true => vec![0xFF; SECTOR_SIZE],
+            false => sector_with(good_record(&mut rng), rng.pick(&[0xFF, 0x00, 0x5A])),
+        };
+        let other = record(rng.pick(&[2, 6, 10, HIGHEST_SEQUENCE]), 0xFF, rng.pick(&[State::Valid, State::New]));
+        let mut setup = Setup::new(&start, rng.below(2), &other, settings, None);
+        for _ in 0..1 + rng.below(5) {
+            let new = good_record(&mut rng);
+            let last = match rng.below(4) {
+                0 => rng.below(8),
+                1 => STORES - rng.below(40),
+                2 => STORES,
+                _ => rng.below(STORES + 1),
+            };
+            let before = setup.sector().to_vec();
+            setup.rewrite(&new, last, |_, _| ());
+            setup.hold(cuts, &before, &new, last);
+        }
+        cuts.lists += 1;
+    }
+}
 
-    for cut in 0..=STORES {
+fn record(sequence: u32, label: u8, state: State) -> [u8; 32] {
+    make(sequence, &[label; 20], state.word()).unwrap()
+}
+
+/// A good record, its sequence often with low bytes FF.
+fn good_record(rng: &mut Rng) -> [u8; 32] {
+    let low = rng.pick(&[0, 0, 0xFF, 0xFFFF, 0xFF_FFFF]);
+    let sequence = (generate::sequence(rng) | low).clamp(1, HIGHEST_SEQUENCE);
+    make(sequence, &generate::label(rng), rng.pick(&State::ALL).word()).unwrap()
+}
+
+/// A sector that holds a record, with any bytes after it.
+fn sector_with(record: [u8; 32], rest: u8) -> Vec<u8> {
+    let mut sector = vec![rest; SECTOR_SIZE];
+    sector[..32].copy_from_slice(&record);
+    sector
+}
+
+/// The sector as a rewrite leaves it that the power cuts.
+fn cut_at(mut sector: Vec<u8>, record: [u8; 32], cut: usize) -> Vec<u8> {
+    (0..cut).for_each(|m| assert_eq!(ffi::store(&mut sector, &record, m), 0));
+    sector
+}
+
+/// A node whose sector `number` is rewritten while the other holds a usable record whose app passes.
+struct Setup {
+    list: Vec<u32>,
+    flash: Vec<u8>,
+    partitions: Partitions,
+    settings: ffi::Settings,
+    number: usize,
+    /// As the library has left it, and as the model has.
+    otadata: Vec<u8>,
+    model: Vec<u8>,
+}
+
+impl Setup {
+    fn new(start: &[u8], number: usize, other: &[u8; 32], settings: ffi::Settings, factory: Option<u32>) -> Setup {
+        let (list, flash) = plain_node(&SLOTS, factory);
+        let partitions = partition::check(&list, flash.len()).unwrap();
+        let mut otadata = vec![0xFF; OTADATA_SIZE];
+        otadata[number * SECTOR_SIZE..][..SECTOR_SIZE].copy_from_slice(start);
+        otadata[(1 - number) * SECTOR_SIZE..][..SECTOR_SIZE].copy_from_slice(&sector_with(*other, 0xFF));
+        let model = otadata.clone();
+        let setup = Setup { list, flash, partitions, settings, number, otadata, model };
+        let untouched = Record::read(other).unwrap();
+        assert!(untouched.usable() && setup.passing(&untouched).is_some());
+        assert!(!(settings.rollback != 0 && untouched.state == State::Pending));
+        setup
+    }
+
+    fn sector(&self) -> &[u8] {
+        &self.otadata[self.number * SECTOR_SIZE..][..SECTOR_SIZE]
+    }
+
+    fn model_settings(&self) -> Settings {
+        plain(self.settings)
+    }
+
+    /// The facts of the image of a record's app, if the app passes.
+    fn passing(&self, record: &Record) -> Option<Facts> {
+        let app = App::Slot(record.slot(self.partitions.n()));
+        passes(&self.partitions, &self.flash, &self.model_settings(), app)
+    }
+
+    /// Does the stores of a rewrite up to the cut `last`, one at a time on both sides, and calls `at` at each cut.
+    fn rewrite(&mut self, new: &[u8; 32], last: usize, mut at: impl FnMut(&Setup, usize)) {
+        let place = self.number * SECTOR_SIZE..(self.number + 1) * SECTOR_SIZE;
+        at(self, 0);
+        for m in 0..last {
+            let sector = &mut self.otadata[place.clone()];
+            assert_eq!(ffi::store(sector, new, m), 0);
+            sector::store(&mut self.model[place.clone()], new, m).unwrap();
+            // Calls that are refused may come among the others; they change nothing.
+            if m % 512 == 7 {
+                assert_eq!(ffi::store(sector, new, STORES), 12);
+                assert_eq!(ffi::store(sector, &new[..31], m), 2);
+                assert_eq!(ffi::store(&mut sector[1..], new, m), 2);
+                assert_eq!(ffi::rewrite(&mut sector[..4095], new), 2);
+            }
+            at(self, m + 1);
+        }
+    }
+
+    /// Holds the bytes, the reading and the next boot to what they must be, when the last rewrite began on the sector
+    /// `before`, has the record `new` and was cut at `cut`.
+    fn hold(&self, cuts: &mut Cuts, before: &[u8], new: &[u8; 32], cut: usize) {
+        let Setup { list, flash, settings, number, otadata, .. } = self;
         let context = || format!("sector {number}, cut {cut}, new record {}, {settings:x?}", hex(new));
-        if cut > 0 {
-            let place = number * SECTOR_SIZE..(number + 1) * SECTOR_SIZE;
-            assert_eq!(ffi::store(&mut otadata[place.clone()], new, cut - 1), 0, "{}", context());
-            sector::store(&mut model[place], new, cut - 1).unwrap();
-        }
-        // Stores that are refused may come among the others; they change nothing.
-        if cut % 512 == 7 {
-            let sector = &mut otadata[number * SECTOR_SIZE..][..SECTOR_SIZE];
-            assert_eq!(ffi::store(sector, new, STORES), 12);
-            assert_eq!(ffi::store(sector, &new[..31], cut), 2);
-            assert_eq!(ffi::store(&mut sector[1..], new, cut), 2);
-            assert_eq!(ffi::rewrite(&mut sector[..4095], new), 2);
-        }
-        assert!(otadata == model, "the bytes differ: {}", context());
+        assert!(*otadata == self.model, "the bytes differ: {}", context());
         cuts.cuts += 1;
 
-        // What the sector reads as: exactly the old record, exactly the new one, or none; the new one when finished.
-        let sector = &otadata[number * SECTOR_SIZE..][..SECTOR_SIZE];
+        // The sector reads exactly as the old record, exactly as the new one, or as none; as the new one when finished.
+        let sector = self.sector();
         let mut out = [9; 2];
         let found = ffi::read_sector(sector, &mut out);
         let reading = read(sector);
@@ -139,7 +220,7 @@ fn rewrite(cuts: &mut Cuts, start: &[u8], new: &[u8; 32], number: usize, other: 
         match reading {
             Some(_) if sector[..32] == *new => cuts.reads_new += 1,
             Some(_) => {
-                assert!(old == reading && sector[..32] == start[..32], "neither old nor new: {}", context());
+                assert!(read(before).is_some() && sector[..32] == before[..32], "neither old nor new: {}", context());
                 cuts.reads_old += 1;
             }
             None => cuts.reads_none += 1,
@@ -149,30 +230,32 @@ fn rewrite(cuts: &mut Cuts, start: &[u8], new: &[u8; 32], number: usize, other: 
         }
 
         // The next boot, on both sectors as they stand.
-        let mut after = otadata.clone();
+        let (mut after, mut model_after) = (otadata.clone(), otadata.clone());
         let mut out = [9; 4];
-        let node = Node { list: &list, flash: &flash, otadata: &mut after };
-        assert_eq!(ffi::boot(node, settings, &mut out), 0, "{}", context());
-        let mut model_after = otadata.clone();
-        let started = boot(&list, &flash, &mut model_after, &model_settings).unwrap();
+        let node = Node { list, flash, otadata: &mut after };
+        assert_eq!(ffi::boot(node, *settings, &mut out), 0, "{}", context());
+        let started = boot(list, flash, &mut model_after, &self.model_settings()).unwrap();
         assert!(after == model_after, "the bytes after boot differ: {}", context());
 
-        // The claim: the rewritten sector's app exactly when its record is active after the aborted marks and its app
-        // passes; otherwise the untouched record's.
-        let marked = readings(&otadata).map(|reading| {
-            let pending = |record: &Record| model_settings.rollback && record.state == State::Pending;
+        // It starts the app of the rewritten sector's record exactly when, after boot's aborted marks, that is the
+        // active record and its app passes; otherwise the untouched record's app.
+        let marked = readings(otadata).map(|reading| {
+            let pending = |record: &Record| settings.rollback != 0 && record.state == State::Pending;
             reading.map(|record| if pending(&record) { record.in_state(State::Aborted) } else { record })
         });
-        let through = match marked[number] {
-            Some(record) if active(&marked) == Some(number) && passing(&record).is_some() => number,
+        let through = match marked[*number] {
+            Some(record) if active(&marked) == Some(*number) && self.passing(&record).is_some() => *number,
             _ => 1 - number,
         };
         let record = marked[through].unwrap();
-        assert_eq!(out, [2, record.slot(n), through as u32, settings.efuse], "{}", context());
-        assert_eq!((started.app, started.sector), (App::Slot(record.slot(n)), Some(through)), "{}", context());
-        assert!(record.usable(), "started through a failed record: {}", context());
-        assert!(!model_settings.too_old(passing(&record).unwrap().version), "started too old an app: {}", context());
-        if through == number {
+        let slot = record.slot(self.partitions.n());
+        assert_eq!(out, [2, slot, through as u32, settings.efuse], "{}", context());
+        assert_eq!((started.app, started.sector), (App::Slot(slot), Some(through)), "{}", context());
+
+        // Never through a record marked invalid or aborted, nor, with anti-rollback on, below the eFuse version.
+        assert!(record.usable(), "{}", context());
+        assert!(!self.model_settings().too_old(self.passing(&record).unwrap().version), "{}", context());
+        if through == *number {
             cuts.starts_rewritten += 1;
         } else {
             cuts.starts_untouched += 1;

@@ -9,6 +9,7 @@ mod examples;
 mod tally;
 
 use calls::Run;
+use ota_tests::sector::STORES;
 use std::time::Instant;
 use tally::AT_LEAST;
 
@@ -30,19 +31,22 @@ fn main() {
     let examples = examples::run();
     (0..CASES).for_each(|case| run.case(case));
     run.assert_flash_erased();
-    let cuts = cuts::run();
+    let cuts = cuts::run(seed);
 
     run.tally.print();
     println!();
-    println!("{} rewrites cut at {} places each, {} cuts", cuts.rewrites, cuts.cuts / cuts.rewrites, cuts.cuts);
     println!(
-        "  the sector then reads as the old record {}, the new {}, none {}",
-        cuts.reads_old, cuts.reads_new, cuts.reads_none
+        "power cuts: {} rewrites cut at all {} places, and {} lists of rewrites; {} cuts",
+        cuts.rewrites,
+        STORES + 1,
+        cuts.lists,
+        cuts.cuts
     );
-    println!(
-        "  boot starts the rewritten sector's app {}, the untouched one's {}",
-        cuts.starts_rewritten, cuts.starts_untouched
-    );
+    println!("{:>9}  the sector reads as the old record", cuts.reads_old);
+    println!("{:>9}  as the new record", cuts.reads_new);
+    println!("{:>9}  as none", cuts.reads_none);
+    println!("{:>9}  boot starts the rewritten sector's app", cuts.starts_rewritten);
+    println!("{:>9}  the untouched sector's app", cuts.starts_untouched);
     println!();
     run.tally.assert_met(&calls::to_be_met());
     println!(
