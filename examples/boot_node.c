@@ -22,11 +22,11 @@ static const uint32_t list[WORDS] = {16, 0, SLOT_SIZE, 17, SLOT_SIZE, SLOT_SIZE}
 static void put_image(uint8_t *slot, uint8_t version) {
     static const uint8_t descriptor[4] = {0x32, 0x54, 0xCD, 0xAB};
     memset(slot, 0, 304);
-    slot[0] = 0xE9;           /* magic */
-    slot[1] = 1;              /* segments */
-    slot[29] = 1;             /* the segment's length, 256 */
+    slot[0] = 0xE9; /* magic */
+    slot[1] = 1;    /* segments */
+    slot[29] = 1;   /* the segment's length, 256 */
     memcpy(slot + 32, descriptor, sizeof descriptor);
-    slot[36] = version;       /* the secure version */
+    slot[36] = version;         /* the secure version */
     slot[303] = 0xEF ^ version; /* the checksum; the descriptor's four bytes cancel out */
 }
 
