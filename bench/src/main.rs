@@ -11,7 +11,7 @@ use std::hint::black_box;
 use std::time::Instant;
 
 /// Runs of each side, taking turns; the median counts.
-const RUNS: usize = 15;
+const RUNS: usize = 31;
 /// A run repeats the work until it takes about so long.
 const RUN_SECONDS: f64 = 0.02;
 
