@@ -1,6 +1,6 @@
 -- The state query and the next update slot.
 use Prim.Native.Nat.{ℕ, _+_, _%_, _<_}
-use mathlib.Core.Bool.{Bool, cond}
+use mathlib.Core.Bool.{cond}
 use mathlib.Core.List.{List}
 use lib.ListN.{length, getD}
 use Rattle.otadata.specs.declared.Verdict.{Verdict}

@@ -1,6 +1,6 @@
 -- Set-boot: the record that names a slot, and where it is written.
 use Prim.Native.Nat.{ℕ}
-use mathlib.Core.Bool.{Bool, true, false, cond}
+use mathlib.Core.Bool.{cond}
 use mathlib.Core.List.{List}
 use lib.ListN.{length, replicate}
 use Rattle.otadata.specs.declared.Slot.{Slot}

@@ -7,7 +7,6 @@ ghost use Rattle.boot.specs.Boot.{sectorAt, readingsOf, Accepts};
 ghost use Rattle.boot_choice.specs.Choice.{chosen as Choice·chosen};
 ghost use Rattle.slot_records.specs.Naming.{activeNaming};
 ghost use Rattle.update.specs.Replies.{outcome};
-ghost use Rattle.update.specs.Tests.{examined};
 ghost use Rattle.update.specs.Marks.{confirmed, registerRaised, validAfter, validNamed, markValid, invalidNamed, markInvalid};
 ghost use Rattle.update.specs.Fallback.{readingIn, abortedReading, abortedReadings, fallsBack};
 use crate::Completion;
