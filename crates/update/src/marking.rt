@@ -158,8 +158,8 @@ fn give_up_named(
     ensures { λ r. ⌜ outcome r (now (otadata .exit)) ≡ invalidNamed (now (list .entry)) (now (flash .entry)) settings (now (otadata .entry)) (activeNaming n (running .0) (readingsOf (now (otadata .entry)))) ⌝ }
 {
     let readings = read_both(otadata);
-    let holder = active_naming(readings, n, running);
-    let Holder::Sector(k) = holder else {
+    let failing = active_naming(readings, n, running);
+    let Holder::Sector(k) = failing else {
         return Reply::Refused(refusal(settings, NOT_NAMED));
     };
     if !falls_back(list, flash, settings, readings, k) {

@@ -11,8 +11,8 @@ read-both-requires c κs = search needs
 active-naming-requires : tie.Need-active-naming-requires
 active-naming-requires c κs = search needs
 
-enum-known-holder : tie.Need-enum-known-holder
-enum-known-holder c = search needs
+enum-known-failing : tie.Need-enum-known-failing
+enum-known-failing c = search needs
 
 enum-told : tie.Need-enum-told
 enum-told c = search needs
@@ -53,7 +53,7 @@ give-up-named-spec =
     (tie.spec
     read-both-requires
     active-naming-requires
-    enum-known-holder
+    enum-known-failing
     enum-told
     refusal-requires
     same-length
