@@ -10,6 +10,7 @@ use Rattle.otadata.specs.declared.Verdict.{Verdict}
 use Rattle.otadata.specs.declared.Verdict.the-variants.{None, Good}
 use Rattle.otadata.specs.Records.{stateWord}
 use Rattle.boot_choice.specs.declared.Settings.{Settings}
+use Rattle.boot.specs.Boot.{Outcome as Boot·Outcome, view}
 
 -- the number that a call returns, and what it leaves in `out`
 abbrev pub answer : ℕ → List ℕ → Answer
@@ -39,3 +40,14 @@ flag f = not (eqb f 0)
 abbrev pub settingsOf : ℕ → ℕ → ℕ → ℕ → Settings
 settingsOf chip efuse rollback anti =
     record { chip = chip; efuse = efuse; rollback = flag rollback; «anti_rollback» = flag anti }
+
+-- an answer, and the otadata that the call leaves
+pub record Outcome : Type 0 where
+  pub answer : Answer
+  pub otadata : List ℕ
+
+abbrev pub outcome : Answer → List ℕ → Outcome
+outcome a o = record { answer = a; otadata = o }
+
+abbrev pub ofBoot : Boot·Outcome → Outcome
+ofBoot b = outcome (view (b .reply)) (b .otadata)
