@@ -1,0 +1,105 @@
+/* The C interface of the proved firmware-update library.
+ *
+ * Link it with the archive of the crate c_api. A slice is a pointer and a count of its elements. `out` is written whole
+ * at every call, refused or not, and is zero where nothing is stated. A number that a call returns is document 01's:
+ * 0 is done, any other a refusal, unless the call says otherwise. No call keeps a pointer, and none asks that anything
+ * was checked before; a buffer that a call writes must overlap no other that it is given. */
+#ifndef OTA_H
+#define OTA_H
+
+#include <stddef.h>
+#include <stdint.h>
+
+#ifdef __cplusplus
+extern "C" {
+#endif
+
+/* ---- records */
+
+/* Returns the check word of a sequence. */
+uint32_t ota_check_word(uint32_t sequence);
+
+/* Makes a record of a sequence, a label and a state word.
+ * Returns 0 with the record, or 17 with 32 zero bytes where the fields make no good record. */
+uint32_t ota_make_record(uint32_t sequence, const uint8_t label[20], uint32_t state, uint8_t record[32]);
+
+/* Reads the record of a sector. Returns 1 with out = {sequence, state word}, or 0 where it holds no good record. */
+uint32_t ota_read_sector(const uint8_t *sector, size_t sector_len, uint32_t out[2]);
+
+/* Copies the active record of two sectors.
+ * Returns 32 with the record, or 0 where none is active, and then `record` stays as it was. */
+uint32_t ota_active(const uint8_t *sector_0, size_t sector_0_len, const uint8_t *sector_1, size_t sector_1_len,
+                    uint8_t record[32]);
+
+/* ---- rewriting a sector */
+
+/* Does store m, 0 to 4,127, of a rewrite of the sector with the record.
+ * Returns 0, 2 where a size is wrong, or 12 where there is no such store. */
+uint32_t ota_store(uint8_t *sector, size_t sector_len, const uint8_t *record, size_t record_len, size_t m);
+
+/* Does a whole rewrite of the sector with the record. Returns 0, or 2 where a size is wrong. */
+uint32_t ota_rewrite(uint8_t *sector, size_t sector_len, const uint8_t *record, size_t record_len);
+
+/* ---- the partition list and app images */
+
+/* Tests a partition list, triples of subtype, offset and size, for a flash of that length.
+ * Returns 0 with out = {number of slots, 1 if factory is listed}, or 1. */
+uint32_t ota_check_list(const uint32_t *list, size_t words, size_t flash_len, uint32_t out[2]);
+
+/* Checks an app image. Returns 0 with out = {whole length, entry address, secure version, number of segments},
+ * or 20 to 29 with out = {place, 0, 0, 0}. */
+uint32_t ota_check_image(const uint8_t *image, size_t image_len, uint16_t chip_id, uint64_t out[4]);
+
+/* ---- the eFuse register */
+
+/* Returns the version that a register holds. */
+uint32_t ota_efuse_version(uint32_t efuse);
+
+/* Returns the register raised to a version. */
+uint32_t ota_efuse_raise(uint32_t efuse, uint32_t version);
+
+/* ---- the node
+ *
+ * The calls below take the partition list, the flash and otadata, and all but the query the settings: chip id, eFuse
+ * register, and two flags, on where not 0. A refusal gives the register as it was given. */
+
+/* Decides which app starts, and changes the states of the records.
+ * out = {1 factory or 2 slot; slot; sector used, or 2 for none; register}. Refused: out = {0, 0, 2, register}. */
+uint32_t ota_boot(const uint32_t *list, size_t words, const uint8_t *flash, size_t flash_len,
+                  uint8_t *otadata, size_t otadata_len,
+                  uint16_t chip_id, uint32_t efuse, uint8_t rollback, uint8_t anti_rollback, uint32_t out[4]);
+
+/* Makes a slot the one to start next. out = {image number, place} where it returns 5, else zero. */
+uint32_t ota_set_boot(const uint32_t *list, size_t words, const uint8_t *flash, size_t flash_len,
+                      uint8_t *otadata, size_t otadata_len,
+                      uint16_t chip_id, uint32_t efuse, uint8_t rollback, uint8_t anti_rollback,
+                      uint32_t slot, uint64_t out[2]);
+
+/* Marks the running slot valid. out = {register to burn, image number, place}, the last two zero unless it returns 5. */
+uint32_t ota_mark_valid(const uint32_t *list, size_t words, const uint8_t *flash, size_t flash_len,
+                        uint8_t *otadata, size_t otadata_len,
+                        uint16_t chip_id, uint32_t efuse, uint8_t rollback, uint8_t anti_rollback,
+                        uint32_t slot, uint64_t out[3]);
+
+/* Marks the running slot invalid, unless nothing else could be started. */
+uint32_t ota_mark_invalid(const uint32_t *list, size_t words, const uint8_t *flash, size_t flash_len,
+                          uint8_t *otadata, size_t otadata_len,
+                          uint16_t chip_id, uint32_t efuse, uint8_t rollback, uint8_t anti_rollback,
+                          uint32_t slot);
+
+/* Gives the state of the record that names a slot. out = {state word}. */
+uint32_t ota_state_query(const uint32_t *list, size_t words, const uint8_t *flash, size_t flash_len,
+                         uint8_t *otadata, size_t otadata_len,
+                         uint32_t slot, uint32_t out[1]);
+
+/* Gives the slot to write an update to, from the running slot, or 0xFFFFFFFF for factory. out = {slot}. */
+uint32_t ota_next_slot(const uint32_t *list, size_t words, const uint8_t *flash, size_t flash_len,
+                       uint8_t *otadata, size_t otadata_len,
+                       uint16_t chip_id, uint32_t efuse, uint8_t rollback, uint8_t anti_rollback,
+                       uint32_t running, uint32_t out[1]);
+
+#ifdef __cplusplus
+}
+#endif
+
+#endif
