@@ -2,8 +2,10 @@
  *
  * Link it with the archive of the crate c_api. A slice is a pointer and a count of its elements. `out` is written whole
  * at every call, refused or not, and is zero where nothing is stated. A number that a call returns is document 01's:
- * 0 is done, any other a refusal, unless the call says otherwise. No call keeps a pointer, and none asks that anything
- * was checked before; a buffer that a call writes must overlap no other that it is given. */
+ * 0 is done, any other a refusal, unless the call says otherwise.
+ *
+ * What a call is given need not be checked before. The caller sees to this alone: each pointer leads to as many elements
+ * as are stated, aligned, and what a call writes overlaps nothing else that it is given. No call keeps a pointer. */
 #ifndef OTA_H
 #define OTA_H
 
