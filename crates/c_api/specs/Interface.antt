@@ -49,5 +49,6 @@ pub record Outcome : Type 0 where
 abbrev pub outcome : Answer → List ℕ → Outcome
 outcome a o = record { answer = a; otadata = o }
 
+-- that of boot: its reply has a value for each place of `out`
 abbrev pub ofBoot : Boot·Outcome → Outcome
 ofBoot b = outcome (view (b .reply)) (b .otadata)
