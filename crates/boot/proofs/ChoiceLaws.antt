@@ -7,34 +7,30 @@ use mathlib.Core.List.{List}
 use native.Mathlib.Omega.{arith}
 use lib.Dec.{eqb}
 use lib.ListN.{getD}
-use borrow.Author.Tests.{ltb-false}
 use Rattle.otadata.specs.declared.Slot.{Slot}
 use Rattle.otadata.specs.declared.Verdict.{Verdict}
 use Rattle.otadata.specs.declared.Verdict.the-variants.{None as NotGood, Good}
 use Rattle.otadata.specs.declared.Reading.{Reading}
-use Rattle.otadata.specs.declared.Holder.the-variants.{Sector}
+use Rattle.sectors.specs.declared.Holder.the-variants.{Sector}
 use Rattle.otadata.specs.Records.{usable, noReading}
-use Rattle.otadata.specs.Sectors.{ofUsable, active}
-use Rattle.partitions.specs.declared.App.{App}
+use Rattle.sectors.specs.Sectors.{ofUsable, active}
 use Rattle.partitions.specs.declared.App.the-variants.{Factory as FactoryApp, OtaSlot}
 use Rattle.partitions.specs.PartitionList.{slotCount, factorySubtype, timesListed}
 use Rattle.app_image.specs.declared.Facts.{Facts}
 use Rattle.app_image.specs.declared.Checked.{Checked}
 use Rattle.app_image.specs.declared.Checked.the-variants.{Refused, Accepted}
-use Rattle.app_image.specs.Check.{check}
 use Rattle.boot_choice.specs.declared.Settings.{Settings}
 use Rattle.boot_choice.specs.declared.Passing.{Passing}
 use Rattle.boot_choice.specs.declared.Passing.the-variants.{No, Yes}
 use Rattle.boot_choice.specs.declared.Choice.{Choice}
 use Rattle.boot_choice.specs.declared.Choice.the-variants.{Nothing, Through, Factory, Found}
-use Rattle.boot_choice.specs.Choice.{image, tooOld, held, passing, orElse, ifPasses, namedSlot, throughVerdict, throughRecord, throughHolder, throughRecords}
+use Rattle.boot_choice.specs.Choice.{tooOld, held, passing, orElse, ifPasses, namedSlot, throughVerdict, throughRecord, throughHolder, throughRecords}
 use Rattle.boot_choice.specs.Choice.{factory, barred, candidate, searchFrom, choice}
-use Rattle.boot.specs.Laws.{NotBelow}
 
 -- ---- an app that passes
 
 -- it is accepted, and not too old
-held-by : (settings : Settings) (c : Checked) (facts : Facts) → held settings c ≡ Yes facts
+pub held-by : (settings : Settings) (c : Checked) (facts : Facts) → held settings c ≡ Yes facts
     → (c ≡ Accepted facts) × (tooOld settings (facts .version .0) ≡ false)
 held-by settings (Refused refusal) facts e = absurd (let z : _≡_ {A = ℕ} 0 1 = cc in omega arith)
 held-by settings (Accepted f) facts e = by (tooOld settings (f .version .0)) refl e
@@ -43,17 +39,6 @@ held-by settings (Accepted f) facts e = by (tooOld settings (f .version .0)) ref
         → (Accepted f ≡ Accepted facts) × (tooOld settings (facts .version .0) ≡ false)
     by true t h = absurd (let z : _≡_ {A = ℕ} 0 1 = cc in omega arith)
     by false t h = let same : f ≡ facts = cc in (ap Accepted same, rw same at t)
-
-pub not-below : (list flash : List ℕ) (settings : Settings) (app : App) (facts : Facts)
-    → passing list flash settings app ≡ Yes facts → NotBelow list flash settings app
-unfolding passing
-not-below list flash settings app facts e =
-    let (is, right) = held-by settings (check (image list flash app) (settings .chip)) facts e in
-    record {
-      facts = facts;
-      accepted = is;
-      not-below = λ (on : settings .«anti_rollback» ≡ true). ltb-false _ _ (rw on at right);
-    }
 
 -- ---- a choice
 

@@ -10,9 +10,9 @@ use Rattle.otadata.specs.declared.State.{State}
 use Rattle.otadata.specs.declared.State.the-variants.{New, Valid, Aborted}
 use Rattle.otadata.specs.declared.Verdict.the-variants.{Good}
 use Rattle.otadata.specs.declared.Reading.{Reading}
-use Rattle.otadata.specs.declared.Holder.the-variants.{None, Sector}
+use Rattle.sectors.specs.declared.Holder.the-variants.{None, Sector}
 use Rattle.otadata.specs.Records.{namesSlot, noReading}
-use Rattle.otadata.specs.Sectors.{active}
+use Rattle.sectors.specs.Sectors.{active}
 use Rattle.efuse.specs.Register.{setLowest, raised}
 use Rattle.partitions.specs.declared.App.the-variants.{Factory as FactoryApp, OtaSlot}
 use Rattle.partitions.specs.PartitionList.{everyBelow, countBelow, factorySubtype, timesListed, slotCount, right, checked}

@@ -1,11 +1,7 @@
-pub mod Changes
 pub mod ChoiceLaws
 pub mod Examples
-pub mod Laws
 pub mod Marking
-pub mod PowerCut
 pub mod Replies
 pub mod TestLaws
 pub mod ThroughRecords
 pub mod TwoSectors
-pub mod WithoutRollback

@@ -13,10 +13,10 @@ use Rattle.otadata.specs.declared.State.{State}
 use Rattle.otadata.specs.declared.State.the-variants.{New, Pending, Aborted}
 use Rattle.otadata.specs.declared.Verdict.the-variants.{Good}
 use Rattle.otadata.specs.declared.Reading.{Reading}
-use Rattle.otadata.specs.declared.Holder.{Holder}
-use Rattle.otadata.specs.declared.Holder.the-variants.{None, Sector}
+use Rattle.sectors.specs.declared.Holder.{Holder}
+use Rattle.sectors.specs.declared.Holder.the-variants.{None, Sector}
 use Rattle.otadata.specs.Records.{stateWord}
-use Rattle.otadata.specs.Sectors.{sectorReading, restated}
+use Rattle.sectors.specs.Sectors.{sectorReading, restated}
 use Rattle.boot_choice.specs.declared.Settings.{Settings}
 use Rattle.boot.specs.Boot.{sectorAt, readingsOf, withState, inState, markedAt, marked, awaiting}
 use Rattle.boot.proofs.TwoSectors.{with-state-same, readings-at, readings-replaced}

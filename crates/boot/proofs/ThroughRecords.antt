@@ -11,9 +11,9 @@ use Rattle.otadata.specs.declared.State.{State}
 use Rattle.otadata.specs.declared.Verdict.{Verdict}
 use Rattle.otadata.specs.declared.Verdict.the-variants.{None as NotGood, Good}
 use Rattle.otadata.specs.declared.Reading.{Reading}
-use Rattle.otadata.specs.declared.Holder.the-variants.{Sector}
+use Rattle.sectors.specs.declared.Holder.the-variants.{Sector}
 use Rattle.otadata.specs.Records.{usableState, usableVerdict, usable, noReading}
-use Rattle.otadata.specs.Sectors.{ofUsable, active}
+use Rattle.sectors.specs.Sectors.{ofUsable, active}
 use Rattle.otadata.proofs.Booleans.{true-is-not-false}
 use Rattle.partitions.specs.declared.App.the-variants.{OtaSlot}
 use Rattle.app_image.specs.declared.Facts.{Facts}

@@ -12,8 +12,8 @@ use Rattle.otadata.specs.declared.State.{State}
 use Rattle.otadata.specs.declared.State.the-variants.{Pending, Aborted}
 use Rattle.otadata.specs.declared.Verdict.the-variants.{None, Good}
 use Rattle.otadata.specs.declared.Reading.{Reading}
-use Rattle.otadata.specs.Sectors.{sectorReading, restated}
-use Rattle.otadata.proofs.Restating.{none-restated, restated-reading, restated-size}
+use Rattle.sectors.specs.Sectors.{sectorReading, restated}
+use Rattle.sectors.proofs.Restating.{none-restated, restated-reading, restated-size}
 use Rattle.boot_choice.specs.declared.Settings.{Settings}
 use Rattle.boot.specs.Boot.{sectorAt, withSector, readingsOf, withState, inState, markedAt, marked}
 

@@ -11,10 +11,10 @@ use Rattle.otadata.specs.declared.State.the-variants.{New, Pending, Aborted}
 use Rattle.otadata.specs.declared.Verdict.{Verdict}
 use Rattle.otadata.specs.declared.Verdict.the-variants.{None as NotGood, Good}
 use Rattle.otadata.specs.declared.Reading.{Reading}
-use Rattle.otadata.specs.declared.Holder.{Holder}
-use Rattle.otadata.specs.declared.Holder.the-variants.{None, Sector}
+use Rattle.sectors.specs.declared.Holder.{Holder}
+use Rattle.sectors.specs.declared.Holder.the-variants.{None, Sector}
 use Rattle.otadata.specs.Records.{stateWord}
-use Rattle.otadata.specs.Sectors.{sectorReading, readings, restated}
+use Rattle.sectors.specs.Sectors.{sectorReading, readings, restated}
 use Rattle.efuse.specs.Register.{width, raised}
 use Rattle.partitions.specs.declared.App.{App}
 use Rattle.partitions.specs.declared.App.the-variants.{Factory as FactoryApp, OtaSlot}

@@ -2,8 +2,8 @@
 mod marks;
 mod starting;
 
-use otadata::Holder;
 use partitions::App;
+use sectors::Holder;
 pub use starting::boot;
 
 // The reply number of document 01 that this layer gives, besides those of the layers below.

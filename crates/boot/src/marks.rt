@@ -2,17 +2,17 @@
 ghost use mathlib.Core.Path.{_≡_};
 ghost use Prim.Native.Nat.{ℕ, _<_};
 ghost use lib.ListN.{length};
-ghost use Rattle.otadata.specs.declared.Holder.the-variants.{Sector};
-ghost use Rattle.otadata.specs.Sectors.{sectorReading};
+ghost use Rattle.sectors.specs.declared.Holder.the-variants.{Sector};
+ghost use Rattle.sectors.specs.Sectors.{sectorReading};
 ghost use Rattle.boot.specs.Boot.{sectorAt, readingsOf, withState, inState, markedAt, marked, awaiting};
 use boot_choice::Settings;
-use otadata::Holder;
 use otadata::Reading;
-use otadata::SECTOR_SIZE;
 use otadata::State;
 use otadata::Verdict;
-use otadata::read_sector;
-use otadata::restate;
+use sectors::Holder;
+use sectors::SECTOR_SIZE;
+use sectors::read_sector;
+use sectors::restate;
 
 // Step 1: with rollback on, each good pending record becomes aborted, sector 0 first. Gives what both sectors then read as.
 pub(crate) fn mark_aborted(otadata: &mut [u8], settings: Settings) -> [Reading; 2]

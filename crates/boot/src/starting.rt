@@ -15,12 +15,12 @@ use boot_choice::Settings;
 use boot_choice::accept;
 use boot_choice::choose;
 use efuse::raise;
-use otadata::Holder;
 use otadata::Reading;
 use otadata::Slot;
 use otadata::Verdict;
 use partitions::App;
 use partitions::Checked;
+use sectors::Holder;
 
 // Decides which app the node starts, and changes the states of its records.
 pub fn boot(list: &[u32], flash: &[u8], otadata: &mut [u8], settings: Settings) -> Reply

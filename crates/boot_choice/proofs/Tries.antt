@@ -14,11 +14,11 @@ use Rattle.otadata.specs.declared.State.{State}
 use Rattle.otadata.specs.declared.Verdict.{Verdict}
 use Rattle.otadata.specs.declared.Verdict.the-variants.{None as NotGood, Good}
 use Rattle.otadata.specs.declared.Reading.{Reading}
-use Rattle.otadata.specs.declared.Holder.{Holder}
-use Rattle.otadata.specs.declared.Holder.the-variants.{None, Sector}
+use Rattle.sectors.specs.declared.Holder.{Holder}
+use Rattle.sectors.specs.declared.Holder.the-variants.{None, Sector}
 use Rattle.otadata.specs.Records.{usableState, usableVerdict, usable, namesSlot, noReading}
-use Rattle.otadata.specs.Sectors.{active, Part}
-use Rattle.otadata.proofs.Activity.{default, active-below-two}
+use Rattle.sectors.specs.Sectors.{active, Part}
+use Rattle.sectors.proofs.Activity.{default, active-below-two}
 use Rattle.efuse.specs.Register.{width, version}
 use Rattle.partitions.specs.declared.App.{App}
 use Rattle.partitions.specs.declared.App.the-variants.{Factory as FactoryApp, OtaSlot}

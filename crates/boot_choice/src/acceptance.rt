@@ -4,10 +4,10 @@ ghost use Rattle.boot_choice.specs.Acceptance.{acceptedNode, accepted, c
 use crate::OTADATA_SIZE;
 use crate::Settings;
 use crate::WRONG_SETTINGS;
-use otadata::WRONG_SIZE;
 use partitions::Checked;
 use partitions::Listing;
 use partitions::check;
+use sectors::WRONG_SIZE;
 
 // Tests 1 and 2, for a flash and otadata of those lengths.
 pub fn accept_node(list: &[u32], capacity: usize, size: usize) -> Checked

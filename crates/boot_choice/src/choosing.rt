@@ -10,15 +10,15 @@ use crate::Settings;
 use app_image::Checked;
 use efuse::SecureVersion;
 use efuse::version;
-use otadata::Holder;
 use otadata::Reading;
 use otadata::Slot;
 use otadata::Verdict;
-use otadata::active;
 use otadata::usable;
 use partitions::App;
 use partitions::Checked as CheckedList;
 use partitions::app_part;
+use sectors::Holder;
+use sectors::active;
 
 // Whether an app passes.
 pub fn passes(list: &[u32], flash: &[u8], settings: Settings, app: App) -> Passing

@@ -66,6 +66,6 @@ pub(crate) fn sector(otadata: &mut [u8], k: u8) -> &mut [u8] {
 // The first k stores of a rewrite.
 fn stores(sector: &mut [u8], rec: &[u8], k: usize) {
     for m in 0..k {
-        otadata::store(sector, rec, m);
+        sectors::store(sector, rec, m);
     }
 }

@@ -16,7 +16,7 @@ pub(crate) fn cuts(case: &[u8], listed: &[u8], flash: &[u8], otadata: [u8; 8200]
     let mut run = outcome(case, listed, flash, otadata);
     let mut from = 0;
     for m in 0..4128usize {
-        otadata::store(sector(&mut otadata, byte(case, 12)), part(case, 16, 32), m);
+        sectors::store(sector(&mut otadata, byte(case, 12)), part(case, 16, 32), m);
         let next = outcome(case, listed, flash, otadata);
         from = next_from(from, m, &run, &next);
         run = next;
@@ -56,7 +56,7 @@ fn outcome(case: &[u8], listed: &[u8], flash: &[u8], otadata: [u8; 8200]) -> [u6
 
 // What the sector at a place reads as: sequence, state word and the label's number, or zeros for none.
 fn reading(otadata: &[u8], at: usize) -> [u64; 3] {
-    let reading = otadata::read_sector(part(otadata, at, 4096));
+    let reading = sectors::read_sector(part(otadata, at, 4096));
     let verdict = reading.verdict;
     let label = reading.label;
     match verdict {

@@ -12,7 +12,7 @@ use Rattle.otadata.specs.declared.State.{State}
 use Rattle.otadata.specs.declared.Verdict.the-variants.{None, Good}
 use Rattle.otadata.specs.declared.Reading.{Reading}
 use Rattle.otadata.specs.Records.{stateWord}
-use Rattle.otadata.specs.Sectors.{sectorReading, Part, activePart}
+use Rattle.sectors.specs.Sectors.{sectorReading, Part, activePart}
 use Rattle.partitions.specs.declared.Listing.{Listing}
 use Rattle.partitions.specs.declared.Checked.{Checked as List·Checked}
 use Rattle.partitions.specs.declared.Checked.the-variants.{Refused as List·Refused, Accepted as List·Accepted}

@@ -7,7 +7,7 @@ use native.Mathlib.Omega.{arith}
 use lib.ListN.{length}
 use Rattle.otadata.specs.declared.Reading.{Reading}
 use Rattle.otadata.specs.declared.Slot.{Slot}
-use Rattle.otadata.specs.declared.Holder.the-variants.{Sector}
+use Rattle.sectors.specs.declared.Holder.the-variants.{Sector}
 use Rattle.partitions.specs.declared.App.the-variants.{Factory as FactoryApp, OtaSlot}
 use Rattle.partitions.specs.declared.Checked.{Checked}
 use Rattle.partitions.specs.declared.Checked.the-variants.{Refused as NotAccepted, Accepted}

@@ -4,3 +4,4 @@ mod node;
 mod records;
 mod registers;
 mod rewriting;
+mod updates;

@@ -1,16 +1,16 @@
-// The calls on a node: its partition list, flash, otadata and settings.
+// Boot of a node, and the settings of a node.
 ghost use mathlib.Core.Path.{_≡_};
 ghost use Prim.Native.Nat.{ℕ, _<_};
 ghost use mathlib.Core.List.{[], _∷_, _++_};
-ghost use Rattle.otadata.specs.declared.Holder.the-variants.{Sector};
+ghost use Rattle.sectors.specs.declared.Holder.the-variants.{Sector};
 ghost use Rattle.boot.specs.Boot.{appValues, sectorValue, boot as Boot·boot};
 ghost use Rattle.c_api.specs.Interface.{answer, settingsOf, outcome, ofBoot};
 use boot::Reply;
 use boot::Start;
 use boot::boot;
 use boot_choice::Settings;
-use otadata::Holder;
 use partitions::App;
+use sectors::Holder;
 
 // Boot: 0 with the app to start, the sector used and the register, or a refusal with the register as given.
 #[no_mangle]
@@ -45,7 +45,7 @@ pub extern "C" fn ota_boot(
 }
 
 // The settings of a node: a flag is on where it is not 0.
-fn settings_of(chip: u16, efuse: u32, rollback: u8, anti: u8) -> Settings
+pub(crate) fn settings_of(chip: u16, efuse: u32, rollback: u8, anti: u8) -> Settings
     ensures { λ r. ⌜ r ≡ settingsOf chip efuse rollback anti ⌝ }
 {
     Settings {

@@ -3,15 +3,15 @@ ghost use mathlib.Core.Path.{_≡_};
 ghost use lib.ListN.{length};
 ghost use Rattle.otadata.specs.Words.{checkWord};
 ghost use Rattle.otadata.specs.Records.{made};
-ghost use Rattle.otadata.specs.Sectors.{sectorReading, part, activePart};
+ghost use Rattle.sectors.specs.Sectors.{sectorReading, part, activePart};
 ghost use Rattle.c_api.specs.Interface.{answer, toC, madeView, readView, activeView};
 use otadata::RECORD_SIZE;
 use otadata::Sequence;
 use otadata::Verdict;
-use otadata::active_record;
 use otadata::check_word;
 use otadata::make;
-use otadata::read_sector;
+use sectors::active_record;
+use sectors::read_sector;
 
 // The check word of a sequence.
 #[no_mangle]

@@ -1,8 +1,8 @@
 // Rewriting a sector, one store at a time or whole.
 ghost use mathlib.Core.Path.{_≡_};
-ghost use Rattle.otadata.specs.Sectors.{reply, singleStore, rewrite as Sectors·rewrite};
-use otadata::rewrite;
-use otadata::store;
+ghost use Rattle.sectors.specs.Sectors.{reply, singleStore, rewrite as Sectors·rewrite};
+use sectors::rewrite;
+use sectors::store;
 
 // Store m of a rewrite: 0, 2 or 12.
 #[no_mangle]

@@ -1,15 +1,9 @@
-pub mod Activity
 pub mod Booleans
 pub mod CheckWord
-pub mod Cuts
 pub mod Examples
-pub mod Fields
+pub mod RecordFields
 pub mod Filled
 pub mod Goodness
 pub mod Making
 pub mod Numbers
-pub mod ReadingLaw
-pub mod Restating
 pub mod RoundTrip
-pub mod SectorReads
-pub mod Stores

@@ -21,7 +21,7 @@ use Rattle.otadata.specs.Records.{sequenceField, labelField, stateField,
 use Rattle.otadata.specs.RoundTrip.{MadeThenRead, ReadThenMade}
 use Rattle.otadata.proofs.Booleans.{either}
 use Rattle.otadata.proofs.Numbers.{le-or-lt, below-four}
-use Rattle.otadata.proofs.Fields.{record-length, sequence-byte, label-byte, state-byte, check-byte, label-field-length, label-field-byte}
+use Rattle.otadata.proofs.RecordFields.{record-length, sequence-byte, label-byte, state-byte, check-byte, label-field-length, label-field-byte}
 use Rattle.otadata.proofs.Goodness.{IsGood, is-good}
 
 -- ---- words and bytes

@@ -1,34 +1,19 @@
-// The otadata layer: the records in the two otadata sectors, how they are read, made and rewritten.
+// The records of otadata: how they are read and made, and their check word.
 mod records;
-mod sectors;
 mod words;
 
+pub use records::fields;
 pub use records::make;
 pub use records::read;
 pub use records::usable;
-pub use sectors::active;
-pub use sectors::active_record;
-pub use sectors::read_sector;
-pub use sectors::readings;
-pub use sectors::restate;
-pub use sectors::rewrite;
-pub use sectors::store;
 pub use words::check_word;
 pub use words::word_of;
 
-// Sizes in bytes, and the number of stores of a rewrite.
-pub const SECTOR_SIZE: usize = 4096;
-
+// The size of a record in bytes.
 pub const RECORD_SIZE: usize = 32;
-
-pub const STORES: usize = 4128;
 
 // The reply numbers of document 01 that this layer gives.
 pub const DONE: u32 = 0;
-
-pub const WRONG_SIZE: u32 = 2;
-
-pub const NO_SUCH_STORE: u32 = 12;
 
 pub const NO_GOOD_RECORD: u32 = 17;
 
@@ -67,10 +52,4 @@ pub struct Reading {
 pub struct Made {
     pub number: u32,
     pub rec: [u8; 32],
-}
-
-// The number of the sector that holds a record, or none.
-pub enum Holder {
-    None,
-    Sector(usize),
 }

@@ -116,7 +116,7 @@ pub fn read(rec: &[u8]) -> Reading
     }
 }
 
-pub(crate) fn no_reading() -> Reading
+fn no_reading() -> Reading
     ensures { λ r. ⌜ r ≡ noReading ⌝ }
 {
     Reading {
@@ -168,8 +168,8 @@ pub fn make(sequence: Sequence, label: [u8; 20], state: u32) -> Made
     Made { number: DONE, rec }
 }
 
-// The 32 bytes of the fields.
-pub(crate) fn fields(sequence: Sequence, label: [u8; 20], state: u32) -> [u8; RECORD_SIZE]
+// The 32 bytes of the fields, whether they make a good record or not.
+pub fn fields(sequence: Sequence, label: [u8; 20], state: u32) -> [u8; RECORD_SIZE]
     ensures { λ r. ⌜ r ≡ recordOf (sequence .0) label state ⌝ }
 {
     let check = check_word(sequence);

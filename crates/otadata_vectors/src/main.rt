@@ -6,7 +6,6 @@ use input::front;
 use input::laid;
 use input::lay;
 use libc::STDIN_FILENO;
-use otadata::Holder;
 use otadata::Reading;
 use otadata::Sequence;
 use output::end_line;
@@ -16,6 +15,7 @@ use output::print_changes;
 use output::print_erased;
 use output::print_number;
 use output::print_reading;
+use sectors::Holder;
 use vector_cases::byte;
 use vector_cases::least;
 use vector_cases::part;
@@ -86,15 +86,15 @@ fn active(case: &[u8]) {
     let second = laid(byte(case, 21), part(case, 56, 32));
     let one = part(&first, 0, word(case, 4) as usize);
     let two = part(&second, 0, word(case, 8) as usize);
-    let readings = otadata::readings(one, two);
-    let holder = otadata::active(readings);
+    let readings = sectors::readings(one, two);
+    let holder = sectors::active(readings);
     print(b"active ");
     match holder {
         Holder::None => print(b"none"),
         Holder::Sector(k) => print_number(k as u64),
     }
     print(b" ");
-    print_bytes(otadata::active_record(one, two));
+    print_bytes(sectors::active_record(one, two));
     print_both(readings);
 }
 
@@ -110,7 +110,7 @@ fn store(case: &[u8]) {
     let before = laid(byte(case, 20), part(case, 24, 32));
     let mut sector = before;
     let rec = part(case, 56, word(case, 8) as usize);
-    let number = otadata::store(
+    let number = sectors::store(
         front(&mut sector, word(case, 4) as usize),
         rec,
         word(case, 12) as usize,
@@ -124,7 +124,7 @@ fn store(case: &[u8]) {
 fn rewrite(case: &[u8]) {
     let mut sector = laid(byte(case, 20), part(case, 24, 32));
     let rec = part(case, 56, word(case, 8) as usize);
-    let number = otadata::rewrite(front(&mut sector, word(case, 4) as usize), rec);
+    let number = sectors::rewrite(front(&mut sector, word(case, 4) as usize), rec);
     print(b"rewrite ");
     print_number(number as u64);
     print_erased(&sector);
@@ -139,11 +139,11 @@ fn cut(case: &[u8]) {
     print(b"cut ");
     print_number(k as u64);
     print(b" ");
-    print_reading(otadata::read_sector(&sector));
+    print_reading(sectors::read_sector(&sector));
 }
 
 fn stores(sector: &mut [u8], rec: &[u8], k: usize) {
     for m in 0..k {
-        otadata::store(sector, rec, m);
+        sectors::store(sector, rec, m);
     }
 }

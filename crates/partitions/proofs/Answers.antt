@@ -9,7 +9,7 @@ use native.Mathlib.Omega.{arith}
 use lib.Dec.{eqb}
 use lib.ListN.{length, take, drop}
 use borrow.Author.Tests.{lt-ltb, le-ltb, not-true, not-false}
-use Rattle.otadata.specs.Sectors.{Part}
+use Rattle.sectors.specs.Sectors.{Part}
 use Rattle.partitions.specs.declared.App.{App}
 use Rattle.partitions.specs.declared.Checked.the-variants.{Refused, Accepted}
 use Rattle.partitions.specs.PartitionList.{entryCount, entryAt, endOf, timesListed, factorySubtype, maxSlots, right, checked, subtypeOf, entryOf, appPart}

@@ -8,7 +8,7 @@ use native.Mathlib.Omega.{arith}
 use lib.ListN.{length, length-drop}
 use lib.Seq.{length-take-le}
 use borrow.Author.Tests.{eq-eqb, ne-eqb, lt-ltb}
-use Rattle.otadata.specs.Sectors.{Part}
+use Rattle.sectors.specs.Sectors.{Part}
 use Rattle.partitions.specs.PartitionList.{entryCount, entryAt, endOf, hasSubtype, timesListed, slotCount, slotSubtype, factorySubtype}
 use Rattle.partitions.specs.PartitionList.{subtypeOf, entryOf, entryPart, appPart, appOf, EntryParts}
 use Rattle.partitions.specs.RightList.{FactoryOrSlot, RightList}

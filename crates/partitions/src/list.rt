@@ -2,7 +2,7 @@
 ghost use mathlib.Core.Path.{_≡_};
 ghost use Prim.Native.Nat.{_+_, _*_, _^_, _≤_, _<_};
 ghost use lib.ListN.{length};
-ghost use Rattle.otadata.specs.Sectors.{part};
+ghost use Rattle.sectors.specs.Sectors.{part};
 ghost use Rattle.partitions.specs.PartitionList.{slotsRight, eachSlotOnce, eachEntryRight, noOverlapBefore, noTwoOverlap};
 ghost use Rattle.partitions.specs.PartitionList.{right as PartitionList·right, checked, subtypeOf, appPart};
 use crate::App;

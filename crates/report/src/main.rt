@@ -25,7 +25,7 @@ fn print_refusal() {
 
 // Prints the report on the two sectors.
 fn print_report(first: &[u8], second: &[u8]) {
-    let text = report_text::report(otadata::readings(first, second));
+    let text = report_text::report(sectors::readings(first, second));
     let len = text.len;
     let bytes = text.bytes;
     io::write_all(STDOUT_FILENO, &bytes[..len]);

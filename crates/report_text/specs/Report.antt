@@ -7,10 +7,10 @@ use Rattle.otadata.specs.declared.State.the-variants.{New, Pending, Valid, Inva
 use Rattle.otadata.specs.declared.Verdict.{Verdict}
 use Rattle.otadata.specs.declared.Verdict.the-variants.{None as NotGood, Good}
 use Rattle.otadata.specs.declared.Reading.{Reading}
-use Rattle.otadata.specs.declared.Holder.{Holder}
-use Rattle.otadata.specs.declared.Holder.the-variants.{None, Sector}
+use Rattle.sectors.specs.declared.Holder.{Holder}
+use Rattle.sectors.specs.declared.Holder.the-variants.{None, Sector}
 use Rattle.otadata.specs.Records.{noReading}
-use Rattle.otadata.specs.Sectors.{active}
+use Rattle.sectors.specs.Sectors.{active}
 use Rattle.report_text.specs.Text.{ascii, decimal}
 
 abbrev pub stateName : State → List ℕ

@@ -8,10 +8,10 @@ ghost use Rattle.report_text.specs.Report.{stateName, verdictText, secto
 use buffer::empty;
 use buffer::push_all;
 use buffer::push_decimal;
-use otadata::Holder;
 use otadata::Reading;
 use otadata::State;
 use otadata::Verdict;
+use sectors::Holder;
 
 // A text: its first `len` bytes.
 pub struct Text {
@@ -25,7 +25,7 @@ pub fn report(readings: [Reading; 2]) -> Text
 {
     let first = readings[0];
     let second = readings[1];
-    let holder = otadata::active(readings);
+    let holder = sectors::active(readings);
     let heading = push_all(empty(), b"otadata report\n");
     let one = sector_line(heading, 0, first);
     let two = sector_line(one, 1, second);

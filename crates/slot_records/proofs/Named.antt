@@ -14,11 +14,11 @@ use Rattle.otadata.specs.declared.State.{State}
 use Rattle.otadata.specs.declared.State.the-variants.{Pending}
 use Rattle.otadata.specs.declared.Verdict.the-variants.{Good}
 use Rattle.otadata.specs.declared.Reading.{Reading}
-use Rattle.otadata.specs.declared.Holder.{Holder}
-use Rattle.otadata.specs.declared.Holder.the-variants.{None, Sector}
+use Rattle.sectors.specs.declared.Holder.{Holder}
+use Rattle.sectors.specs.declared.Holder.the-variants.{None, Sector}
 use Rattle.otadata.specs.Records.{stateWord, namesSlot, noReading}
-use Rattle.otadata.specs.Sectors.{sequenceIn, ofUsable, active}
-use Rattle.otadata.proofs.Activity.{default, by-usable, active-below-two}
+use Rattle.sectors.specs.Sectors.{sequenceIn, ofUsable, active}
+use Rattle.sectors.proofs.Activity.{default, by-usable, active-below-two}
 use Rattle.slot_records.specs.Naming.{names, ifNames, activeNaming, highestNaming, orHolder, namingRecord, inState, activePending}
 
 -- ---- one record

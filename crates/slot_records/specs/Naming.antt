@@ -9,10 +9,10 @@ use Rattle.otadata.specs.declared.State.the-variants.{Pending}
 use Rattle.otadata.specs.declared.Verdict.{Verdict}
 use Rattle.otadata.specs.declared.Verdict.the-variants.{None as NotGood, Good}
 use Rattle.otadata.specs.declared.Reading.{Reading}
-use Rattle.otadata.specs.declared.Holder.{Holder}
-use Rattle.otadata.specs.declared.Holder.the-variants.{None, Sector}
+use Rattle.sectors.specs.declared.Holder.{Holder}
+use Rattle.sectors.specs.declared.Holder.the-variants.{None, Sector}
 use Rattle.otadata.specs.Records.{stateWord, namesSlot, noReading}
-use Rattle.otadata.specs.Sectors.{sequenceIn, ofUsable, active}
+use Rattle.sectors.specs.Sectors.{sequenceIn, ofUsable, active}
 
 -- the record is good and names slot s
 abbrev pub names : ℕ → ℕ → Verdict → Bool

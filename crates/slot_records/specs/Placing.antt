@@ -6,10 +6,10 @@ use mathlib.Core.List.{List}
 use lib.Dec.{eqb, leb}
 use lib.ListN.{getD}
 use Rattle.otadata.specs.declared.Reading.{Reading}
-use Rattle.otadata.specs.declared.Holder.{Holder}
-use Rattle.otadata.specs.declared.Holder.the-variants.{None, Sector}
+use Rattle.sectors.specs.declared.Holder.{Holder}
+use Rattle.sectors.specs.declared.Holder.the-variants.{None, Sector}
 use Rattle.otadata.specs.Records.{lastSequence, namesSlot, noReading}
-use Rattle.otadata.specs.Sectors.{sequenceIn, active}
+use Rattle.sectors.specs.Sectors.{sequenceIn, active}
 use Rattle.partitions.specs.PartitionList.{firstFrom}
 use Rattle.slot_records.specs.declared.Placement.{Placement}
 use Rattle.slot_records.specs.declared.Placement.the-variants.{Nowhere, At}

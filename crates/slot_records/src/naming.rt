@@ -1,13 +1,13 @@
 // Which of the two records names a slot, with n slots.
 ghost use mathlib.Core.Path.{_≡_};
-ghost use Rattle.otadata.specs.Sectors.{ofUsable, sequenceIn};
+ghost use Rattle.sectors.specs.Sectors.{ofUsable, sequenceIn};
 ghost use Rattle.slot_records.specs.Naming.{names as Naming·names, activeNaming, highestNaming, namingRecord, inState, activePending};
-use otadata::Holder;
 use otadata::Reading;
 use otadata::Slot;
 use otadata::State;
 use otadata::Verdict;
-use otadata::active;
+use sectors::Holder;
+use sectors::active;
 
 // The sector of the active record, where that names the slot.
 pub fn active_naming(readings: [Reading; 2], n: u32, slot: Slot) -> Holder

@@ -1,15 +1,15 @@
 // Where a new record for a slot goes, and its sequence.
 ghost use mathlib.Core.Path.{_≡_};
-ghost use Rattle.otadata.specs.Sectors.{active as Sectors·active};
+ghost use Rattle.sectors.specs.Sectors.{active as Sectors·active};
 ghost use Rattle.slot_records.specs.Placing.{nextSequence, newSequence, freeSector, placement};
 use crate::Placement;
 use crate::naming::sequence_of;
-use otadata::Holder;
 use otadata::LAST_SEQUENCE;
 use otadata::Reading;
 use otadata::Sequence;
 use otadata::Slot;
-use otadata::active;
+use sectors::Holder;
+use sectors::active;
 
 // Where a new record that names the slot goes, with n slots.
 pub fn place_new(readings: [Reading; 2], n: u32, slot: Slot) -> Placement

@@ -14,8 +14,8 @@ use Rattle.otadata.specs.declared.Verdict.{Verdict}
 use Rattle.otadata.specs.declared.Verdict.the-variants.{None, Good}
 use Rattle.otadata.specs.declared.Reading.{Reading}
 use Rattle.otadata.specs.Records.{noReading}
-use Rattle.otadata.specs.Sectors.{sectorReading}
-use Rattle.otadata.proofs.Activity.{default}
+use Rattle.sectors.specs.Sectors.{sectorReading}
+use Rattle.sectors.proofs.Activity.{default}
 use Rattle.boot_choice.specs.declared.Settings.{Settings}
 use Rattle.boot_choice.specs.declared.Choice.{Choice}
 use Rattle.boot_choice.specs.declared.Choice.the-variants.{Nothing, Through, Factory, Found}

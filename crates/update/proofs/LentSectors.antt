@@ -6,7 +6,7 @@ use mathlib.Core.List.{List, _++_}
 use native.Mathlib.Omega.{arith}
 use lib.ListN.{take, drop}
 use Rattle.otadata.specs.declared.State.{State}
-use Rattle.otadata.specs.Sectors.{Reply, reply, restated, rewrite}
+use Rattle.sectors.specs.Sectors.{Reply, reply, restated, rewrite}
 use Rattle.boot.specs.Boot.{sectorAt, withSector, withState}
 use Rattle.update.specs.SetBoot.{withRecord}
 

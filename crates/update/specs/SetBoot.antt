@@ -7,10 +7,10 @@ use Rattle.otadata.specs.declared.Slot.{Slot}
 use Rattle.otadata.specs.declared.Sequence.{Sequence}
 use Rattle.otadata.specs.declared.State.{State}
 use Rattle.otadata.specs.declared.State.the-variants.{New, Undefined}
-use Rattle.otadata.specs.declared.Holder.{Holder}
-use Rattle.otadata.specs.declared.Holder.the-variants.{None, Sector}
+use Rattle.sectors.specs.declared.Holder.{Holder}
+use Rattle.sectors.specs.declared.Holder.the-variants.{None, Sector}
 use Rattle.otadata.specs.Records.{stateWord, made}
-use Rattle.otadata.specs.Sectors.{rewrite}
+use Rattle.sectors.specs.Sectors.{rewrite}
 use Rattle.partitions.specs.declared.Checked.{Checked}
 use Rattle.partitions.specs.declared.Checked.the-variants.{Refused as NotAccepted, Accepted}
 use Rattle.boot_choice.specs.declared.Settings.{Settings}

@@ -13,12 +13,12 @@ use crate::testing::unconfirmed;
 use boot_choice::Settings;
 use boot_choice::accept;
 use boot_choice::accept_node;
-use otadata::Holder;
 use otadata::Reading;
 use otadata::Slot;
 use otadata::Verdict;
 use partitions::App;
 use partitions::Checked;
+use sectors::Holder;
 use slot_records::naming_record;
 
 // The state of the record that names the slot.

@@ -2,15 +2,15 @@
 ghost use mathlib.Core.Path.{_≡_};
 ghost use Prim.Native.Nat.{_<_};
 ghost use lib.ListN.{length};
-ghost use Rattle.otadata.specs.Sectors.{sectorReading};
+ghost use Rattle.sectors.specs.Sectors.{sectorReading};
 ghost use Rattle.boot.specs.Boot.{sectorAt, readingsOf, withState};
 ghost use Rattle.update.specs.SetBoot.{withRecord};
 use otadata::Reading;
-use otadata::SECTOR_SIZE;
 use otadata::State;
-use otadata::read_sector;
-use otadata::restate;
-use otadata::rewrite;
+use sectors::SECTOR_SIZE;
+use sectors::read_sector;
+use sectors::restate;
+use sectors::rewrite;
 
 // What both sectors read as.
 pub(crate) fn read_both(otadata: &[u8]) -> [Reading; 2]

@@ -61,7 +61,7 @@ pub enum NextSlot {
 }
 
 // The outcome of tests 5 and 6 of an app.
-pub(crate) enum Examined {
+pub enum Examined {
     Unfit(Refusal),
     Fit(Facts),
 }

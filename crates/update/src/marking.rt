@@ -2,7 +2,7 @@
 ghost use mathlib.Core.Path.{_≡_};
 ghost use Prim.Native.Nat.{_<_};
 ghost use lib.ListN.{length};
-ghost use Rattle.otadata.specs.Sectors.{sectorReading};
+ghost use Rattle.sectors.specs.Sectors.{sectorReading};
 ghost use Rattle.boot.specs.Boot.{sectorAt, readingsOf, Accepts};
 ghost use Rattle.boot_choice.specs.Choice.{chosen as Choice·chosen};
 ghost use Rattle.slot_records.specs.Naming.{activeNaming};
@@ -24,12 +24,12 @@ use boot_choice::Settings;
 use boot_choice::choose;
 use efuse::SecureVersion;
 use efuse::raise;
-use otadata::Holder;
 use otadata::Reading;
 use otadata::Slot;
 use otadata::State;
 use otadata::Verdict;
 use partitions::Checked;
+use sectors::Holder;
 use slot_records::active_naming;
 use slot_records::in_state;
 

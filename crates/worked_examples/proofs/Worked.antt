@@ -7,7 +7,7 @@ use lib.Count.{onesIn}
 use Rattle.otadata.specs.declared.State.the-variants.{Valid, Aborted}
 use Rattle.otadata.specs.Words.{shift, feeds, checkWord}
 use Rattle.otadata.specs.Records.{namesSlot, noReading, good, recordOf, made}
-use Rattle.otadata.specs.Sectors.{active}
+use Rattle.sectors.specs.Sectors.{active}
 use Rattle.efuse.specs.Register.{setLowest, raised}
 use Rattle.partitions.specs.declared.App.the-variants.{OtaSlot}
 use Rattle.partitions.specs.PartitionList.{firstFrom, slotCount}

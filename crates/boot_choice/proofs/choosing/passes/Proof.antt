@@ -1,7 +1,7 @@
 -- `boot_choice::choosing::passes` meets its contract: the image is the app's part of the flash, and its version is held to the eFuse version.
 -- Assumes nothing.
 use denote.Ref.{now}
-use Rattle.otadata.specs.Sectors.{part}
+use Rattle.sectors.specs.Sectors.{part}
 use Rattle.boot_choice.proofs.Tries.{image-refused, version-too-old, app-passes}
 use borrow.Author.Needs.{needs}
 use Rattle.boot_choice.proofs.choosing.passes.Statement.{statement}

@@ -2,7 +2,7 @@
 -- Assumes nothing.
 use mathlib.Core.Path.{_∙_, sym}
 use native.Mathlib.Omega.{arith}
-use Rattle.otadata.proofs.Activity.{active-below-two}
+use Rattle.sectors.proofs.Activity.{active-below-two}
 use Rattle.boot_choice.proofs.Tries.{none-active, active-chosen, other-tried}
 use borrow.Author.Needs.{needs}
 use Rattle.boot_choice.proofs.choosing.through_records.Statement.{statement}

@@ -4,7 +4,7 @@ use Prim.Native.Nat.{ℕ, _-_}
 use mathlib.Core.Path.{_≡_, _∙_, sym, ap}
 use lib.ListN.{length}
 use Rattle.otadata.specs.Words.{byteOf}
-use Rattle.otadata.proofs.Fields.{sequence-byte, label-byte, state-byte, check-byte}
+use Rattle.otadata.proofs.RecordFields.{sequence-byte, label-byte, state-byte, check-byte}
 use borrow.Author.Needs.{needs}
 use Rattle.otadata.proofs.records.field_byte.Statement.{statement}
 use Rattle.otadata.proofs.records.field_byte.Tie as tie

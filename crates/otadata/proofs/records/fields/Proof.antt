@@ -7,7 +7,7 @@ use lib.ListN.{length}
 use mathlib.Core.Path.{_≡_, sym}
 use Rattle.otadata.specs.Words.{checkWord}
 use Rattle.otadata.specs.Records.{recordOf}
-use Rattle.otadata.proofs.Fields.{record-length}
+use Rattle.otadata.proofs.RecordFields.{record-length}
 use Rattle.otadata.proofs.Filled.{Filled, filled-none, filled-more, filled-whole}
 use Rattle.otadata.proofs.records.fields.Statement.{statement}
 use Rattle.otadata.proofs.records.fields.Tie as tie

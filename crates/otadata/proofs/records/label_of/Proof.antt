@@ -6,7 +6,7 @@ use borrow.Author.Needs.{needs}
 use mathlib.Core.Path.{sym}
 use denote.Ref.{now}
 use Rattle.otadata.specs.Records.{labelField}
-use Rattle.otadata.proofs.Fields.{label-field-length, label-field-byte}
+use Rattle.otadata.proofs.RecordFields.{label-field-length, label-field-byte}
 use Rattle.otadata.proofs.Filled.{Filled, filled-none, filled-more, filled-whole}
 use Rattle.otadata.proofs.records.label_of.Statement.{statement}
 use Rattle.otadata.proofs.records.label_of.Tie as tie

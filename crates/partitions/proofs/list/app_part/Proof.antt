@@ -3,7 +3,7 @@
 use native.Mathlib.Omega.{arith}
 use denote.Ref.{now}
 use borrow.Author.Needs.{needs}
-use Rattle.otadata.specs.Sectors.{part}
+use Rattle.sectors.specs.Sectors.{part}
 use Rattle.partitions.proofs.Answers.{of-no-list, of-no-entry, IsPart, of-entry}
 use Rattle.partitions.proofs.list.app_part.Statement.{statement}
 use Rattle.partitions.proofs.list.app_part.Tie as tie

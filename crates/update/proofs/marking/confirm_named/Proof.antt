@@ -26,7 +26,14 @@ same-length : tie.Need-same-length
 same-length c = search needs
 
 returns : tie.Need-returns
-returns c = search valid-not-named
+returns c =
+    let told = c .before in
+    let named = told .before .before in
+    let read = named .before in
+    let start = read .before .before .before .before .before in
+    let a = start .args in
+    valid-not-named (now (a .list)) (now (a .flash)) (now (a .otadata)) (a .settings) (a .running) (a .n) _ (read .read-both .ensures)
+    _ (named .active-naming .ensures) (told .enum-told .given .1) _ (c .refusal .ensures)
 
 examine-requires : tie.Need-examine-requires
 examine-requires c κs = search needs

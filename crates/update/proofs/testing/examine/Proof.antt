@@ -1,7 +1,7 @@
 -- `update::testing::examine` meets its contract.
 -- Assumes nothing.
 use denote.Ref.{now}
-use Rattle.otadata.specs.Sectors.{part}
+use Rattle.sectors.specs.Sectors.{part}
 use Rattle.update.proofs.TestLaws.{image-unfit, version-unfit, app-fit}
 use borrow.Author.Needs.{needs}
 use Rattle.update.proofs.testing.examine.Statement.{statement}

@@ -1,0 +1,127 @@
+-- The state changes of boot, sector by sector: what the aborted marks of step 1 and the pending mark of step 3 leave of each.
+-- Assumes nothing.
+use Prim.Native.Nat.{ℕ, _-_, _<_}
+use mathlib.Core.Path.{_≡_, _∙_, refl, sym, ap, subst}
+use mathlib.Core.Bool.{Bool, true, false, cond, _&&_}
+use mathlib.Core.List.{List}
+use mathlib.Core.Logic.{_⊎_, inl, inr, ⊎-elim}
+use native.Mathlib.Omega.{arith}
+use lib.ListN.{length}
+use borrow.Author.Tests.{eqb-true}
+use Rattle.otadata.specs.declared.Sequence.{Sequence}
+use Rattle.otadata.specs.declared.State.{State}
+use Rattle.otadata.specs.declared.State.the-variants.{New, Pending, Aborted}
+use Rattle.otadata.specs.declared.Verdict.{Verdict}
+use Rattle.otadata.specs.declared.Verdict.the-variants.{None as NotGood, Good}
+use Rattle.otadata.specs.declared.Reading.{Reading}
+use Rattle.sectors.specs.declared.Holder.{Holder}
+use Rattle.sectors.specs.declared.Holder.the-variants.{None, Sector}
+use Rattle.otadata.specs.Records.{stateOf}
+use Rattle.sectors.specs.Sectors.{sectorReading}
+use Rattle.otadata.proofs.Booleans.{true-is-not-false, both}
+use Rattle.sectors.proofs.Restating.{state-of-word}
+use Rattle.boot_choice.specs.declared.Settings.{Settings}
+use Rattle.boot_choice.specs.declared.Choice.{Choice}
+use Rattle.boot.specs.Boot.{sectorAt, withState, inState, markedAt, marked, usedSector, awaiting}
+use Rattle.boot.proofs.ChoiceLaws.{Sound, nothing, through, by-factory, found}
+use Rattle.boot.proofs.TwoSectors.{two, with-state-reading, tested-size, tested-other, marked-at-size}
+
+-- with rollback on, t is a sector with the record of s changed from one state to the other
+pub record Restates (settings : Settings) (old now : State) (s t : List ℕ) : Type 0 where
+  pub rollback : settings .rollback ≡ true
+  pub sequence : Sequence
+  pub was : sectorReading s .verdict ≡ Good sequence old
+  pub is : sectorReading t .verdict ≡ Good sequence now
+  pub label : sectorReading t .label ≡ sectorReading s .label
+
+-- a sector keeps its bytes, or its record is changed so
+abbrev pub KeptOr : Settings → State → State → List ℕ → List ℕ → Type 0
+KeptOr settings old now s t = (t ≡ s) ⊎ Restates settings old now s t
+
+-- ---- a change of the records in one state
+
+-- a record that passes the test is good, and in that state
+in-state : (state : State) (v : Verdict) → inState state v ≡ true → (q : Sequence) × (v ≡ Good q state)
+in-state state NotGood e = absurd (true-is-not-false false e refl)
+in-state state (Good q s) e = (q, ap (Good q) (sym (state-of-word s) ∙ ap stateOf (eqb-true _ _ e) ∙ state-of-word state))
+
+-- with rollback on, the record of the sector is in that state
+abbrev due : Settings → State → List ℕ → Bool
+due settings old s = settings .rollback && inState old (sectorReading s .verdict)
+
+-- then the record of sector k gets another state
+module _ (settings : Settings) (old now : State) (k : ℕ) (l : k < 2) (o : List ℕ) (size : length o ≡ 8192) where
+  changed-by : (b : Bool) → due settings old (sectorAt k o) ≡ b
+      → KeptOr settings old now (sectorAt k o) (sectorAt k (cond b (withState now k o) o))
+  changed-by false e = inl refl
+  changed-by true e =
+      let (on, passes) = both (settings .rollback) (inState old (sectorReading (sectorAt k o) .verdict)) e in
+      let (q, was) = in-state old (sectorReading (sectorAt k o) .verdict) passes in
+      let reading = with-state-reading now k o l size q old was in
+      inr
+      (record {
+        rollback = on;
+        sequence = q;
+        was = was;
+        is = ap (λ (r : Reading). r .verdict) reading;
+        label = ap (λ (r : Reading). r .label) reading;
+      })
+
+-- ---- step 1
+
+module _ (settings : Settings) (k : ℕ) (l : k < 2) (o : List ℕ) (size : length o ≡ 8192) where
+  mark-own : KeptOr settings Pending Aborted (sectorAt k o) (sectorAt k (markedAt settings k o))
+  unfolding markedAt
+  mark-own = changed-by settings Pending Aborted k l o size (due settings Pending (sectorAt k o)) refl
+
+  mark-other : sectorAt (1 - k) (markedAt settings k o) ≡ sectorAt (1 - k) o
+  unfolding markedAt
+  mark-other = tested-other Aborted k o l size (due settings Pending (sectorAt k o))
+
+module _ (settings : Settings) (o : List ℕ) where
+  pub marks : length o ≡ 8192 → (k : ℕ) → k < 2 → KeptOr settings Pending Aborted (sectorAt k o) (sectorAt k (marked settings o))
+  marks size =
+      let first = markedAt settings 0 o in
+      let first-size = marked-at-size settings 0 (omega arith) o size in
+      two (λ (k : ℕ). KeptOr settings Pending Aborted (sectorAt k o) (sectorAt k (marked settings o)))
+      (subst (KeptOr settings Pending Aborted (sectorAt 0 o)) (sym (mark-other settings 1 (omega arith) first first-size))
+      (mark-own settings 0 (omega arith) o size))
+      (subst (λ (s : List ℕ). KeptOr settings Pending Aborted s (sectorAt 1 (marked settings o))) (mark-other settings 0 (omega arith) o size)
+      (mark-own settings 1 (omega arith) first first-size))
+
+  pub no-marks : settings .rollback ≡ false → marked settings o ≡ o
+  unfolding markedAt
+  no-marks off = simp off
+
+-- ---- step 3
+
+this-or-other : (j : ℕ) → j < 2 → (k : ℕ) → k < 2 → (k ≡ j) ⊎ (k ≡ 1 - j)
+this-or-other =
+    two (λ (j : ℕ). (k : ℕ) → k < 2 → (k ≡ j) ⊎ (k ≡ 1 - j))
+    (two (λ (k : ℕ). (k ≡ 0) ⊎ (k ≡ 1)) (inl refl) (inr refl))
+    (two (λ (k : ℕ). (k ≡ 1) ⊎ (k ≡ 0)) (inr refl) (inl refl))
+
+module _ (list flash : List ℕ) (settings : Settings) (rs : List Reading) (o : List ℕ) where
+  pub awaits : length o ≡ 8192 → {made : Choice} → Sound list flash settings rs made
+      → (k : ℕ) → k < 2 → KeptOr settings New Pending (sectorAt k o) (sectorAt k (awaiting settings (usedSector made) o))
+  unfolding awaiting
+  awaits size nothing k l = inl refl
+  awaits size (through {k = j} lj u p) k l =
+      ⊎-elim
+      (λ (same : k ≡ j). rw same (changed-by settings New Pending j lj o size (due settings New (sectorAt j o)) refl))
+      (λ (other : k ≡ 1 - j). rw other (inl (tested-other Pending j o lj size (due settings New (sectorAt j o)))))
+      (this-or-other j lj k l)
+  awaits size (by-factory p) k l = inl refl
+  awaits size (found p) k l = inl refl
+
+  pub awaiting-size : length o ≡ 8192 → {made : Choice} → Sound list flash settings rs made → length (awaiting settings (usedSector made) o) ≡ 8192
+  unfolding awaiting
+  awaiting-size size nothing = size
+  awaiting-size size (through {k = k} l u p) = tested-size Pending k o l size (due settings New (sectorAt k o))
+  awaiting-size size (by-factory p) = size
+  awaiting-size size (found p) = size
+
+pub no-awaiting : (settings : Settings) (o : List ℕ) → settings .rollback ≡ false → (h : Holder) → awaiting settings h o ≡ o
+unfolding awaiting
+no-awaiting settings o off None = refl
+no-awaiting settings o off (Sector k) = simp off

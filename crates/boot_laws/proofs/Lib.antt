@@ -1,0 +1,4 @@
+pub mod Changes
+pub mod Laws
+pub mod PowerCut
+pub mod WithoutRollback

@@ -1,0 +1,109 @@
+-- With rollback off new and pending count as undefined: the choice and the reply are the same.
+-- Assumes nothing.
+use Prim.Native.Nat.{ℕ, zero, suc, _+_, _-_}
+use mathlib.Core.Path.{_≡_, _∙_, refl, sym, ap, ap₂}
+use mathlib.Core.List.{List, map}
+use lib.ListN.{getD, List·getD-map}
+use Rattle.otadata.specs.declared.State.{State}
+use Rattle.otadata.specs.declared.State.the-variants.{New, Pending, Valid, Invalid, Aborted, Undefined}
+use Rattle.otadata.specs.declared.Verdict.{Verdict}
+use Rattle.otadata.specs.declared.Verdict.the-variants.{None as NotGood, Good}
+use Rattle.otadata.specs.declared.Reading.{Reading}
+use Rattle.sectors.specs.declared.Holder.{Holder}
+use Rattle.sectors.specs.declared.Holder.the-variants.{None, Sector}
+use Rattle.otadata.specs.Records.{usableState, usableVerdict, noReading}
+use Rattle.sectors.specs.Sectors.{sequenceIn, active}
+use Rattle.partitions.specs.PartitionList.{slotCount}
+use Rattle.boot_choice.specs.declared.Settings.{Settings}
+use Rattle.boot_choice.specs.declared.Choice.{Choice}
+use Rattle.boot_choice.specs.declared.Choice.the-variants.{Nothing, Through, Factory, Found}
+use Rattle.boot_choice.specs.Choice.{orElse, throughVerdict, throughRecord, throughHolder, throughRecords, verdictBars, barred, candidate, searchFrom, choice}
+use Rattle.boot.specs.Boot.{readingsOf, goodVerdict, anyGood, registerAfter, replyTo}
+use Rattle.boot_laws.specs.Laws.{countedState, countedVerdict, counted, WithoutRollback}
+use Rattle.boot_laws.proofs.Changes.{no-marks}
+use Rattle.boot.proofs.Replies.{replies}
+
+-- ---- one record
+
+usable-state : (s : State) → usableState (countedState s) ≡ usableState s
+usable-state New = refl
+usable-state Pending = refl
+usable-state Valid = refl
+usable-state Invalid = refl
+usable-state Aborted = refl
+usable-state Undefined = refl
+
+usable-verdict : (v : Verdict) → usableVerdict (countedVerdict v) ≡ usableVerdict v
+usable-verdict NotGood = refl
+usable-verdict (Good q s) = usable-state s
+
+same-sequence : (v : Verdict) → sequenceIn (countedVerdict v) ≡ sequenceIn v
+same-sequence NotGood = refl
+same-sequence (Good q s) = refl
+
+same-good : (v : Verdict) → goodVerdict (countedVerdict v) ≡ goodVerdict v
+same-good NotGood = refl
+same-good (Good q s) = refl
+
+same-bars : (n slot : ℕ) (v : Verdict) → verdictBars n slot (countedVerdict v) ≡ verdictBars n slot v
+same-bars n slot NotGood = refl
+same-bars n slot (Good q s) = simp (usable-state s)
+
+-- ---- the two readings
+
+module _ (list flash : List ℕ) (settings : Settings) (rs : List Reading) where
+  at : (k : ℕ) → getD (map counted rs) k noReading ≡ counted (getD rs k noReading)
+  unfolding noReading
+  at k = List·getD-map counted rs k noReading
+
+  same-active : active (map counted rs) ≡ active rs
+  unfolding active
+  same-active = simp (at, usable-verdict, same-sequence)
+
+  same-verdict : (k : ℕ) (v : Verdict) → throughVerdict list flash settings k (countedVerdict v) ≡ throughVerdict list flash settings k v
+  same-verdict k NotGood = refl
+  same-verdict k (Good q s) = refl
+
+  same-record : (k : ℕ) → throughRecord list flash settings k (getD (map counted rs) k noReading) ≡ throughRecord list flash settings k (getD rs k noReading)
+  unfolding throughRecord
+  same-record k = simp (at, usable-verdict, same-verdict)
+
+  same-holder : (h : Holder) → throughHolder list flash settings (map counted rs) h ≡ throughHolder list flash settings rs h
+  same-holder None = refl
+  same-holder (Sector k) = ap₂ orElse (same-record k) (same-record (1 - k))
+
+  same-records : throughRecords list flash settings (map counted rs) ≡ throughRecords list flash settings rs
+  unfolding throughRecords
+  same-records = ap (throughHolder list flash settings (map counted rs)) same-active ∙ same-holder (active rs)
+
+  same-candidate : (slot : ℕ) → candidate list flash settings (map counted rs) slot ≡ candidate list flash settings rs slot
+  unfolding candidate barred
+  same-candidate slot = simp (at, same-bars)
+
+  same-search : (slot k : ℕ) → searchFrom list flash settings (map counted rs) slot k ≡ searchFrom list flash settings rs slot k
+  unfolding searchFrom
+  same-search slot zero = refl
+  same-search slot (suc k) = simp (same-candidate slot, same-search (slot + 1) k)
+
+  same-choice : choice list flash settings (map counted rs) ≡ choice list flash settings rs
+  unfolding choice
+  same-choice = simp (same-records, same-search 0 (slotCount list))
+
+  same-any : anyGood (map counted rs) ≡ anyGood rs
+  unfolding anyGood
+  same-any = simp (at, same-good)
+
+  same-reply : (c : Choice) → replyTo settings (map counted rs) c ≡ replyTo settings rs c
+  unfolding registerAfter
+  same-reply Nothing = refl
+  same-reply (Through k slot facts) = refl
+  same-reply (Factory facts) = refl
+  same-reply (Found slot facts) = simp same-any
+
+pub without-rollback : WithoutRollback
+unfolding WithoutRollback
+without-rollback list flash o settings off accepts =
+    let rs = readingsOf o in
+    replies list flash o settings accepts
+    ∙ ap (λ (x : List ℕ). replyTo settings (readingsOf x) (choice list flash settings (readingsOf x))) (no-marks settings o off)
+    ∙ sym (same-reply list flash settings rs (choice list flash settings (map counted rs)) ∙ ap (replyTo settings rs) (same-choice list flash settings rs))

@@ -1,0 +1,55 @@
+-- `c_api::updates::ota_mark_valid` meets its contract.
+-- Assumes nothing.
+use borrow.Author.Needs.{needs}
+use Rattle.c_api.proofs.Replies.{valid-refused, valid-done}
+use Rattle.c_api.proofs.updates.ota_mark_valid.Statement.{statement}
+use Rattle.c_api.proofs.updates.ota_mark_valid.Tie as tie
+
+settings-of-requires : tie.Need-settings-of-requires
+settings-of-requires c κs = search needs
+
+mark-valid-requires : tie.Need-mark-valid-requires
+mark-valid-requires c κs = search needs
+
+enum-known-reply : tie.Need-enum-known-reply
+enum-known-reply c = search needs
+
+cast-t18 : tie.Need-cast-t18
+cast-t18 c = search needs
+
+cast-t19 : tie.Need-cast-t19
+cast-t19 c = search needs
+
+enum-known-reply-2 : tie.Need-enum-known-reply-2
+enum-known-reply-2 c = search needs
+
+cast-t21 : tie.Need-cast-t21
+cast-t21 c = search needs
+
+same-length : tie.Need-same-length
+same-length c = search needs
+
+returns : tie.Need-returns
+returns c = search valid-refused
+
+same-length-2 : tie.Need-same-length-2
+same-length-2 c = search needs
+
+returns-2 : tie.Need-returns-2
+returns-2 c = search valid-done
+
+pub ota-mark-valid-spec : {M : Type 1} → statement M
+ota-mark-valid-spec =
+    tie.close
+    (tie.spec
+    settings-of-requires
+    mark-valid-requires
+    enum-known-reply
+    cast-t18
+    cast-t19
+    enum-known-reply-2
+    cast-t21
+    same-length
+    returns
+    same-length-2
+    returns-2)

@@ -1,0 +1,66 @@
+-- What a sector reads as, from its bytes.
+-- Assumes nothing.
+use Prim.Native.Nat.{ℕ, _<_}
+use mathlib.Core.Path.{_≡_, _∙_, refl, sym, ap}
+use mathlib.Core.Bool.{true, false}
+use mathlib.Core.List.{List, []}
+use mathlib.Core.Logic.{_⊎_, ⊎-elim}
+use native.Mathlib.Omega.{arith}
+use lib.ListN.{length, getD, take}
+use lib.Seq.{getD-take, length-take-le, ext-getD}
+use borrow.Author.Tests.{eq-eqb}
+use Rattle.otadata.specs.Records.{good, reading}
+use Rattle.sectors.specs.Sectors.{recordIn, readsAs, sectorReading}
+use Rattle.otadata.proofs.Booleans.{true-or-false}
+
+pub reads-record : (s : List ℕ) → good (recordIn s) ≡ true → readsAs s ≡ recordIn s
+unfolding readsAs
+reads-record s g = simp g
+
+pub reads-none : (s : List ℕ) → good (recordIn s) ≡ false → readsAs s ≡ []
+unfolding readsAs
+reads-none s g = simp g
+
+pub reads-alike : (s t : List ℕ) → recordIn s ≡ recordIn t → readsAs s ≡ readsAs t
+unfolding readsAs
+reads-alike s t e = simp e
+
+pub good-or-not : (s : List ℕ) → (good (recordIn s) ≡ true) ⊎ (good (recordIn s) ≡ false)
+good-or-not s = true-or-false (good (recordIn s))
+
+module _ (s : List ℕ) (size : length s ≡ 4096) where
+  pub record-in : recordIn s ≡ take 32 s
+  unfolding recordIn
+  record-in = simp (eq-eqb _ _ size)
+
+  pub record-in-length : length (recordIn s) ≡ 32
+  record-in-length = ap length record-in ∙ length-take-le 32 s (omega arith)
+
+  pub record-in-byte : (j : ℕ) → j < 32 → getD (recordIn s) j 0 ≡ getD s j 0
+  record-in-byte j l = ap (λ (r : List ℕ). getD r j 0) record-in ∙ getD-take 32 s j 0 l
+
+  -- a record is known by its 32 bytes
+  pub record-is : (g : List ℕ) → length g ≡ 32 → ((j : ℕ) → j < 32 → getD s j 0 ≡ getD g j 0) → recordIn s ≡ g
+  record-is g e same =
+      ext-getD 0 (recordIn s) g (record-in-length ∙ sym e)
+      (λ (j : ℕ) (l : j < length (recordIn s)).
+      let h : j < 32 = omega (arith, record-in-length) in
+      record-in-byte j h ∙ same j h)
+
+-- ---- the fields that are read
+
+pub no-record : good [] ≡ false
+unfolding good
+no-record = refl
+
+reading-none : (rec : List ℕ) → good rec ≡ false → reading rec ≡ reading []
+unfolding reading
+reading-none rec e = simp (e, no-record)
+
+-- the fields are those of what the sector reads as: sectors that read alike have the same reading
+pub reading-of-reads : (s : List ℕ) → sectorReading s ≡ reading (readsAs s)
+reading-of-reads s =
+    ⊎-elim
+    (λ (g : good (recordIn s) ≡ true). ap reading (sym (reads-record s g)))
+    (λ (g : good (recordIn s) ≡ false). reading-none (recordIn s) g ∙ ap reading (sym (reads-none s g)))
+    (good-or-not s)

@@ -1,0 +1,60 @@
+-- `sectors::rewriting::restate` meets its contract: a good record is rewritten in the new state, and read back so.
+-- Assumes nothing.
+use borrow.Author.Needs.{needs}
+use Rattle.sectors.proofs.Restating.{nothing-restated, record-restated}
+use Rattle.sectors.proofs.rewriting.restate.Statement.{statement}
+use Rattle.sectors.proofs.rewriting.restate.Tie as tie
+
+read-sector-requires : tie.Need-read-sector-requires
+read-sector-requires c κs = search needs
+
+enum-known-verdict : tie.Need-enum-known-verdict
+enum-known-verdict c = search needs
+
+enum-told : tie.Need-enum-told
+enum-told c = search needs
+
+same-length : tie.Need-same-length
+same-length c = search needs
+
+returns : tie.Need-returns
+returns c = nothing-restated _ _ _ (c .before .before .read-sector .ensures) (c .enum-told .given .1)
+
+word-requires : tie.Need-word-requires
+word-requires c κs = search needs
+
+fields-requires : tie.Need-fields-requires
+fields-requires c κs = search needs
+
+slice-aggregate-rewrite : tie.Need-slice-aggregate-rewrite
+slice-aggregate-rewrite c = search needs
+
+rewrite-requires : tie.Need-rewrite-requires
+rewrite-requires c κs = search needs
+
+same-length-2 : tie.Need-same-length-2
+same-length-2 c = search needs
+
+returns-2 : tie.Need-returns-2
+returns-2 c =
+    let written = c .before .before in
+    let fields = written .before .before .before in
+    let verdict = fields .before .before .before .before in
+    let read = verdict .before .before in
+    record-restated _ _ _ (read .read-sector .ensures) _ _ (verdict .verdict .given .1) _ (fields .before .word .ensures) _ (fields .fields .ensures) _ _ (written .rewrite .ensures)
+
+pub restate-spec : {M : Type 1} → statement M
+restate-spec =
+    tie.close
+    (tie.spec
+    read-sector-requires
+    enum-known-verdict
+    enum-told
+    same-length
+    returns
+    word-requires
+    fields-requires
+    slice-aggregate-rewrite
+    rewrite-requires
+    same-length-2
+    returns-2)

@@ -1,0 +1,82 @@
+// Reading the two otadata sectors, and the active record.
+ghost use mathlib.Core.Path.{_≡_};
+ghost use Rattle.sectors.specs.Sectors.{sectorReading, readings as Sectors·readings, sequenceIn, active as Sectors·active};
+ghost use Rattle.sectors.specs.Sectors.{part, recordPart, activePart};
+use crate::Holder;
+use crate::SECTOR_SIZE;
+use otadata::RECORD_SIZE;
+use otadata::Reading;
+use otadata::Verdict;
+use otadata::read;
+use otadata::usable;
+
+// The record of a sector: its first 32 bytes, or an empty part of bytes that are no sector.
+fn record_part(sector: &[u8]) -> &[u8]
+    ensures { λ r. ⌜ part r ≡ recordPart (part (sector .entry)) ⌝ }
+{
+    if sector.len() == SECTOR_SIZE {
+        return &sector[..RECORD_SIZE];
+    }
+    &sector[..0]
+}
+
+// What a sector reads as.
+pub fn read_sector(sector: &[u8]) -> Reading
+    ensures { λ r. ⌜ r ≡ sectorReading (now (sector .entry)) ⌝ }
+{
+    read(record_part(sector))
+}
+
+// What both sectors read as, indexed by sector number.
+pub fn readings(first: &[u8], second: &[u8]) -> [Reading; 2]
+    ensures { λ r. ⌜ r ≡ Sectors·readings (now (first .entry)) (now (second .entry)) ⌝ }
+{
+    [read_sector(first), read_sector(second)]
+}
+
+// Which of the two readings is the active record.
+pub fn active(readings: [Reading; 2]) -> Holder
+    ensures { λ r. ⌜ r ≡ Sectors·active readings ⌝ }
+{
+    let first = readings[0];
+    let second = readings[1];
+    if !usable(first) {
+        if usable(second) {
+            return Holder::Sector(1);
+        }
+        return Holder::None;
+    }
+    if !usable(second) {
+        return Holder::Sector(0);
+    }
+    if sequence_of(first) < sequence_of(second) {
+        return Holder::Sector(1);
+    }
+    Holder::Sector(0)
+}
+
+// The sequence of a good record, and 0 of none.
+fn sequence_of(reading: Reading) -> u32
+    ensures { λ r. ⌜ r ≡ sequenceIn (reading .verdict) ⌝ }
+{
+    let verdict = reading.verdict;
+    match verdict {
+        Verdict::None => 0,
+        Verdict::Good(sequence, _) => sequence.0,
+    }
+}
+
+// The active record's 32 bytes, as a part of the sector that holds it, or an empty part.
+pub fn active_record<'a>(first: &'a [u8], second: &'a [u8]) -> &'a [u8]
+    ensures { λ r. ⌜ part r ≡ activePart (part (first .entry)) (part (second .entry)) ⌝ }
+{
+    let holder = active(readings(first, second));
+    match holder {
+        Holder::None => &first[..0],
+        Holder::Sector(k) => if k == 0 {
+            record_part(first)
+        } else {
+            record_part(second)
+        },
+    }
+}

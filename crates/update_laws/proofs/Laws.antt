@@ -1,0 +1,232 @@
+-- The laws of set-boot and of the marks: each stage of a call either refuses and keeps everything, or leaves it to the next.
+-- Assumes nothing.
+use Prim.Native.Nat.{ℕ}
+use mathlib.Core.Path.{_≡_, refl, sym, subst}
+use mathlib.Core.Bool.{Bool, true, false, cond}
+use mathlib.Core.List.{List}
+use native.Mathlib.Omega.{arith}
+use lib.ListN.{length}
+use borrow.Author.Tests.{eq-eqb}
+use Rattle.otadata.specs.declared.Slot.{Slot}
+use Rattle.otadata.specs.declared.State.the-variants.{Invalid}
+use Rattle.otadata.proofs.Booleans.{true-is-not-false}
+use Rattle.sectors.specs.declared.Holder.{Holder}
+use Rattle.sectors.specs.declared.Holder.the-variants.{None, Sector}
+use Rattle.partitions.specs.declared.Checked.{Checked}
+use Rattle.partitions.specs.declared.Checked.the-variants.{Refused as NotAccepted, Accepted}
+use Rattle.partitions.specs.declared.App.the-variants.{OtaSlot}
+use Rattle.app_image.specs.declared.Facts.{Facts}
+use Rattle.app_image.specs.declared.Checked.{Checked as ImageChecked}
+use Rattle.app_image.specs.declared.Checked.the-variants.{Refused as ImageRefused, Accepted as ImageAccepted}
+use Rattle.app_image.specs.Check.{check}
+use Rattle.boot_choice.specs.declared.Settings.{Settings}
+use Rattle.boot_choice.specs.Choice.{image, tooOld}
+use Rattle.boot.specs.declared.Start.{Start}
+use Rattle.boot.specs.declared.Refusal.{Refusal as BootRefusal}
+use Rattle.boot.specs.declared.Reply.{Reply as BootReply}
+use Rattle.boot.specs.declared.Reply.the-variants.{Refused as BootRefused, Starts}
+use Rattle.boot.specs.Boot.{readingsOf, withState, boot, Accepts}
+use Rattle.boot.proofs.TwoSectors.{with-state-size}
+use Rattle.boot_laws.proofs.Laws.{acceptance-law}
+use Rattle.boot_laws.specs.Laws.{AcceptanceLaw}
+use Rattle.slot_records.specs.declared.Placement.{Placement}
+use Rattle.slot_records.specs.declared.Placement.the-variants.{Nowhere, At}
+use Rattle.slot_records.specs.Naming.{activeNaming}
+use Rattle.slot_records.specs.Placing.{placement}
+use Rattle.slot_records.proofs.Named.{naming-below-two}
+use Rattle.update.specs.declared.Refusal.{Refusal}
+use Rattle.update.specs.declared.Completion.{Completion}
+use Rattle.update.specs.declared.Reply.the-variants.{Refused, Done}
+use Rattle.update.specs.declared.Examined.{Examined}
+use Rattle.update.specs.declared.Examined.the-variants.{Unfit, Fit}
+use Rattle.update.specs.Replies.{refusal, imageRefusal, done, Outcome, outcome}
+use Rattle.update.specs.Tests.{acceptedSlot, held, examined, unconfirmed}
+use Rattle.update.specs.SetBoot.{placedAt, unlessNamed, pointed, afterImage, afterTests, setBoot}
+use Rattle.update.specs.Marks.{validAfter, validNamed, validTested, markValid, choosesNothing, invalidNamed, invalidTested, markInvalid}
+use Rattle.update.proofs.MarkLaws.{otadata-size, boot-accepts}
+use Rattle.update_laws.specs.Laws.{RefusalKeeps, RefusalLaw, RegisterLaw, FallbackLaw}
+
+-- ---- how a call ends
+
+-- refused, with otadata as lent and the register as given, or done, with what is claimed of the register and of otadata
+data Ends (o : List ℕ) (settings : Settings) (Claim : ℕ → List ℕ → Type 0) : Outcome → Type 0 where
+  refuses : {r : Refusal} → r .register ≡ settings .efuse → Ends o settings Claim (outcome (Refused r) o)
+  completes : {register : ℕ} {left : List ℕ} → Claim register left → Ends o settings Claim (outcome (done register) left)
+
+module _ {o : List ℕ} {settings : Settings} {Claim : ℕ → List ℕ → Type 0} where
+  keeps : {out : Outcome} → Ends o settings Claim out → RefusalKeeps o settings out
+  keeps (refuses {r = r} given) why e =
+      let same : r ≡ why = cc in
+      (refl, subst (λ (x : Refusal). x .register ≡ settings .efuse) same given)
+  keeps (completes claim) why e = absurd (let z : _≡_ {A = ℕ} 0 1 = cc in omega arith)
+
+  under : (b : Bool) {x y : Outcome} → Ends o settings Claim x → (b ≡ false → Ends o settings Claim y) → Ends o settings Claim (cond b x y)
+  under true first second = first
+  under false first second = second refl
+
+  -- tests 5 and 6
+  unfit-register : (r why : Refusal) → r .register ≡ settings .efuse → Unfit r ≡ Unfit why → why .register ≡ settings .efuse
+  unfit-register r why given e =
+      let same : r ≡ why = cc in
+      subst (λ (x : Refusal). x .register ≡ settings .efuse) same given
+
+  old-register : (b : Bool) (facts : Facts) (why : Refusal) → cond b (Unfit (refusal settings 6)) (Fit facts) ≡ Unfit why → why .register ≡ settings .efuse
+  old-register true facts why e = unfit-register (refusal settings 6) why refl e
+  old-register false facts why e = absurd (let z : _≡_ {A = ℕ} 0 1 = cc in omega arith)
+
+  held-register : (c : ImageChecked) (why : Refusal) → held settings c ≡ Unfit why → why .register ≡ settings .efuse
+  held-register (ImageRefused i) why e = unfit-register (imageRefusal settings i) why refl e
+  held-register (ImageAccepted facts) why e = old-register (tooOld settings (facts .version .0)) facts why e
+
+-- the register of a refusal of tests 5 and 6
+abbrev KeepsRegister : Settings → Examined → Type 0
+KeepsRegister settings t = (why : Refusal) → t ≡ Unfit why → why .register ≡ settings .efuse
+
+examined-register : (list flash : List ℕ) (settings : Settings) (s : Slot) → KeepsRegister settings (examined list flash settings s)
+unfolding examined
+examined-register list flash settings s = held-register (check (image list flash (OtaSlot s)) (settings .chip))
+
+-- ---- set-boot
+
+AsGiven : Settings → ℕ → List ℕ → Type 0
+AsGiven settings register left = register ≡ settings .efuse
+
+module _ (o : List ℕ) (settings : Settings) where
+  EndsSet : Outcome → Type 0
+  EndsSet = Ends o settings (AsGiven settings)
+
+  placed-ends : (p : Placement) → EndsSet (placedAt settings o p)
+  unfolding EndsSet AsGiven
+  placed-ends Nowhere = refuses refl
+  placed-ends (At k q) = completes refl
+
+  named-ends : (h : Holder) {rest : Outcome} → EndsSet rest → EndsSet (unlessNamed settings o h rest)
+  unfolding EndsSet AsGiven
+  named-ends (Sector k) rest = completes refl
+  named-ends None rest = rest
+
+  pointed-ends : (n s : ℕ) → EndsSet (pointed n s settings o)
+  unfolding EndsSet AsGiven pointed
+  pointed-ends n s =
+      under (unconfirmed settings (readingsOf o)) (refuses refl)
+      (λ (e : unconfirmed settings (readingsOf o) ≡ false).
+      named-ends (activeNaming n s (readingsOf o)) (placed-ends (placement n s (readingsOf o))))
+
+  image-ends : (t : Examined) → KeepsRegister settings t → {rest : Outcome} → EndsSet rest → EndsSet (afterImage settings o t rest)
+  unfolding EndsSet AsGiven
+  image-ends (Unfit why) given rest = refuses (given why refl)
+  image-ends (Fit facts) given rest = rest
+
+  tests-end : (list flash : List ℕ) (s : Slot) (c : Checked) → EndsSet (afterTests list flash o settings s c)
+  unfolding EndsSet AsGiven
+  tests-end list flash s (NotAccepted number) = refuses refl
+  tests-end list flash s (Accepted listing) =
+      image-ends (examined list flash settings s) (examined-register list flash settings s) (pointed-ends (listing .slots) (s .0))
+
+  set-ends : (list flash : List ℕ) (s : Slot) → EndsSet (setBoot list flash o settings s)
+  unfolding setBoot
+  set-ends list flash s = tests-end list flash s (acceptedSlot list (length flash) (length o) settings (s .0))
+
+-- ---- mark-valid
+
+AnyRegister : ℕ → List ℕ → Type 0
+AnyRegister register left = Unit
+
+module _ (list flash o : List ℕ) (settings : Settings) (s : Slot) where
+  EndsValid : Outcome → Type 0
+  EndsValid = Ends o settings AnyRegister
+
+  after-ends : (k : ℕ) (t : Examined) → KeepsRegister settings t → EndsValid (validAfter settings k o t)
+  unfolding EndsValid AnyRegister
+  after-ends k (Unfit why) given = refuses (given why refl)
+  after-ends k (Fit facts) given = completes tt
+
+  valid-named-ends : (h : Holder) → EndsValid (validNamed list flash settings s o h)
+  unfolding EndsValid AnyRegister
+  valid-named-ends None = refuses refl
+  valid-named-ends (Sector k) = after-ends k (examined list flash settings s) (examined-register list flash settings s)
+
+  valid-tests-end : (c : Checked) → EndsValid (validTested list flash o settings s c)
+  unfolding EndsValid AnyRegister
+  valid-tests-end (NotAccepted number) = refuses refl
+  valid-tests-end (Accepted listing) = valid-named-ends (activeNaming (listing .slots) (s .0) (readingsOf o))
+
+  valid-ends : EndsValid (markValid list flash o settings s)
+  unfolding markValid
+  valid-ends = valid-tests-end (acceptedSlot list (length flash) (length o) settings (s .0))
+
+-- ---- mark-invalid
+
+-- done, with the register as given, where boot accepts what is left and does not choose nothing
+record LeavesApp (list flash : List ℕ) (settings : Settings) (register : ℕ) (left : List ℕ) : Type 0 where
+  register-given : register ≡ settings .efuse
+  chooses : choosesNothing (boot list flash left settings .reply) ≡ false
+  accepts : Accepts list (length flash) (length left) settings
+
+module _ (list flash o : List ℕ) (settings : Settings) (s : Slot) where
+  EndsInvalid : Outcome → Type 0
+  EndsInvalid = Ends o settings (LeavesApp list flash settings)
+
+  invalid-named-ends : (h : Holder) → ((k : ℕ) → h ≡ Sector k → Accepts list (length flash) (length (withState Invalid k o)) settings)
+      → EndsInvalid (invalidNamed list flash settings o h)
+  unfolding EndsInvalid
+  invalid-named-ends None accepted = refuses refl
+  invalid-named-ends (Sector k) accepted =
+      under (choosesNothing (boot list flash (withState Invalid k o) settings .reply)) (refuses refl)
+      (λ (e : choosesNothing (boot list flash (withState Invalid k o) settings .reply) ≡ false).
+      completes (record { register-given = refl; chooses = e; accepts = accepted k refl }))
+
+  invalid-tests-end : (c : Checked) → acceptedSlot list (length flash) (length o) settings (s .0) ≡ c → EndsInvalid (invalidTested list flash o settings s c)
+  unfolding EndsInvalid
+  invalid-tests-end (NotAccepted number) is = refuses refl
+  invalid-tests-end (Accepted listing) is =
+      let size = otadata-size list flash o settings (s .0) _ (sym is) listing refl in
+      let accepts = boot-accepts list flash o settings (s .0) _ (sym is) listing refl in
+      invalid-named-ends (activeNaming (listing .slots) (s .0) (readingsOf o))
+      (λ (k : ℕ) (e : activeNaming (listing .slots) (s .0) (readingsOf o) ≡ Sector k).
+      let left = with-state-size Invalid k o (naming-below-two (listing .slots) (s .0) (readingsOf o) k e) size in
+      subst (λ (n : ℕ). Accepts list (length flash) n settings) (sym left) accepts)
+
+  invalid-ends : EndsInvalid (markInvalid list flash o settings s)
+  unfolding markInvalid
+  invalid-ends = invalid-tests-end (acceptedSlot list (length flash) (length o) settings (s .0)) refl
+
+-- ---- the laws
+
+pub refusal-law : RefusalLaw
+unfolding RefusalLaw EndsSet EndsValid EndsInvalid
+refusal-law list flash o settings s =
+    record {
+      set-boot = keeps (set-ends o settings list flash s);
+      mark-valid = keeps (valid-ends list flash o settings s);
+      mark-invalid = keeps (invalid-ends list flash o settings s);
+    }
+
+-- what is claimed of a success
+claimed : {o : List ℕ} {settings : Settings} {Claim : ℕ → List ℕ → Type 0} {out : Outcome} → Ends o settings Claim out
+    → (c : Completion) → out .reply ≡ Done c → Claim (c .register) (out .otadata)
+claimed {Claim = Claim} (completes {register = register} {left = left} claim) c e =
+    let same : register ≡ c .register = cc in
+    subst (λ (x : ℕ). Claim x left) same claim
+claimed (refuses given) c e = absurd (let z : _≡_ {A = ℕ} 0 1 = cc in omega arith)
+
+pub register-law : RegisterLaw
+unfolding RegisterLaw EndsSet EndsInvalid AsGiven
+register-law list flash o settings s = (
+  claimed (set-ends o settings list flash s),
+  λ (c : Completion) e. claimed (invalid-ends list flash o settings s) c e .register-given,
+)
+
+-- where boot accepts and does not choose nothing, it starts an app
+starts-by : (r : BootReply) → choosesNothing r ≡ false → ((refusal : BootRefusal) → r ≡ BootRefused refusal → refusal .number ≡ 10)
+    → (start : Start) × (r ≡ Starts start)
+starts-by (BootRefused refusal) n ten = absurd (true-is-not-false _ (eq-eqb _ _ (ten refusal refl)) n)
+starts-by (Starts start) n ten = (start, refl)
+
+pub fallback-law : FallbackLaw
+unfolding FallbackLaw EndsInvalid AcceptanceLaw
+fallback-law list flash o settings s c e =
+    let leaves = claimed (invalid-ends list flash o settings s) c e in
+    let left = markInvalid list flash o settings s .otadata in
+    starts-by (boot list flash left settings .reply) (leaves .chooses)
+    (acceptance-law list flash left settings .accepting (leaves .accepts))
