@@ -64,7 +64,9 @@ module _ {o : List ℕ} {settings : Settings} {Claim : ℕ → List ℕ → Type
   under true first second = first
   under false first second = second refl
 
-  -- tests 5 and 6
+-- ---- tests 5 and 6
+
+module _ (settings : Settings) where
   unfit-register : (r why : Refusal) → r .register ≡ settings .efuse → Unfit r ≡ Unfit why → why .register ≡ settings .efuse
   unfit-register r why given e =
       let same : r ≡ why = cc in
@@ -84,41 +86,37 @@ KeepsRegister settings t = (why : Refusal) → t ≡ Unfit why → why .register
 
 examined-register : (list flash : List ℕ) (settings : Settings) (s : Slot) → KeepsRegister settings (examined list flash settings s)
 unfolding examined
-examined-register list flash settings s = held-register (check (image list flash (OtaSlot s)) (settings .chip))
+examined-register list flash settings s = held-register settings (check (image list flash (OtaSlot s)) (settings .chip))
 
 -- ---- set-boot
 
-AsGiven : Settings → ℕ → List ℕ → Type 0
+abbrev AsGiven : Settings → ℕ → List ℕ → Type 0
 AsGiven settings register left = register ≡ settings .efuse
 
 module _ (o : List ℕ) (settings : Settings) where
-  EndsSet : Outcome → Type 0
+  abbrev EndsSet : Outcome → Type 0
   EndsSet = Ends o settings (AsGiven settings)
 
   placed-ends : (p : Placement) → EndsSet (placedAt settings o p)
-  unfolding EndsSet AsGiven
   placed-ends Nowhere = refuses refl
   placed-ends (At k q) = completes refl
 
   named-ends : (h : Holder) {rest : Outcome} → EndsSet rest → EndsSet (unlessNamed settings o h rest)
-  unfolding EndsSet AsGiven
   named-ends (Sector k) rest = completes refl
   named-ends None rest = rest
 
   pointed-ends : (n s : ℕ) → EndsSet (pointed n s settings o)
-  unfolding EndsSet AsGiven pointed
+  unfolding pointed
   pointed-ends n s =
       under (unconfirmed settings (readingsOf o)) (refuses refl)
       (λ (e : unconfirmed settings (readingsOf o) ≡ false).
       named-ends (activeNaming n s (readingsOf o)) (placed-ends (placement n s (readingsOf o))))
 
   image-ends : (t : Examined) → KeepsRegister settings t → {rest : Outcome} → EndsSet rest → EndsSet (afterImage settings o t rest)
-  unfolding EndsSet AsGiven
   image-ends (Unfit why) given rest = refuses (given why refl)
   image-ends (Fit facts) given rest = rest
 
   tests-end : (list flash : List ℕ) (s : Slot) (c : Checked) → EndsSet (afterTests list flash o settings s c)
-  unfolding EndsSet AsGiven
   tests-end list flash s (NotAccepted number) = refuses refl
   tests-end list flash s (Accepted listing) =
       image-ends (examined list flash settings s) (examined-register list flash settings s) (pointed-ends (listing .slots) (s .0))
@@ -129,25 +127,22 @@ module _ (o : List ℕ) (settings : Settings) where
 
 -- ---- mark-valid
 
-AnyRegister : ℕ → List ℕ → Type 0
+abbrev AnyRegister : ℕ → List ℕ → Type 0
 AnyRegister register left = Unit
 
 module _ (list flash o : List ℕ) (settings : Settings) (s : Slot) where
-  EndsValid : Outcome → Type 0
+  abbrev EndsValid : Outcome → Type 0
   EndsValid = Ends o settings AnyRegister
 
   after-ends : (k : ℕ) (t : Examined) → KeepsRegister settings t → EndsValid (validAfter settings k o t)
-  unfolding EndsValid AnyRegister
   after-ends k (Unfit why) given = refuses (given why refl)
   after-ends k (Fit facts) given = completes tt
 
   valid-named-ends : (h : Holder) → EndsValid (validNamed list flash settings s o h)
-  unfolding EndsValid AnyRegister
   valid-named-ends None = refuses refl
   valid-named-ends (Sector k) = after-ends k (examined list flash settings s) (examined-register list flash settings s)
 
   valid-tests-end : (c : Checked) → EndsValid (validTested list flash o settings s c)
-  unfolding EndsValid AnyRegister
   valid-tests-end (NotAccepted number) = refuses refl
   valid-tests-end (Accepted listing) = valid-named-ends (activeNaming (listing .slots) (s .0) (readingsOf o))
 
@@ -164,12 +159,11 @@ record LeavesApp (list flash : List ℕ) (settings : Settings) (register : ℕ) 
   accepts : Accepts list (length flash) (length left) settings
 
 module _ (list flash o : List ℕ) (settings : Settings) (s : Slot) where
-  EndsInvalid : Outcome → Type 0
+  abbrev EndsInvalid : Outcome → Type 0
   EndsInvalid = Ends o settings (LeavesApp list flash settings)
 
   invalid-named-ends : (h : Holder) → ((k : ℕ) → h ≡ Sector k → Accepts list (length flash) (length (withState Invalid k o)) settings)
       → EndsInvalid (invalidNamed list flash settings o h)
-  unfolding EndsInvalid
   invalid-named-ends None accepted = refuses refl
   invalid-named-ends (Sector k) accepted =
       under (choosesNothing (boot list flash (withState Invalid k o) settings .reply)) (refuses refl)
@@ -177,7 +171,6 @@ module _ (list flash o : List ℕ) (settings : Settings) (s : Slot) where
       completes (record { register-given = refl; chooses = e; accepts = accepted k refl }))
 
   invalid-tests-end : (c : Checked) → acceptedSlot list (length flash) (length o) settings (s .0) ≡ c → EndsInvalid (invalidTested list flash o settings s c)
-  unfolding EndsInvalid
   invalid-tests-end (NotAccepted number) is = refuses refl
   invalid-tests-end (Accepted listing) is =
       let size = otadata-size list flash o settings (s .0) _ (sym is) listing refl in
@@ -194,7 +187,7 @@ module _ (list flash o : List ℕ) (settings : Settings) (s : Slot) where
 -- ---- the laws
 
 pub refusal-law : RefusalLaw
-unfolding RefusalLaw EndsSet EndsValid EndsInvalid
+unfolding RefusalLaw
 refusal-law list flash o settings s =
     record {
       set-boot = keeps (set-ends o settings list flash s);
@@ -211,7 +204,7 @@ claimed {Claim = Claim} (completes {register = register} {left = left} claim) c 
 claimed (refuses given) c e = absurd (let z : _≡_ {A = ℕ} 0 1 = cc in omega arith)
 
 pub register-law : RegisterLaw
-unfolding RegisterLaw EndsSet EndsInvalid AsGiven
+unfolding RegisterLaw
 register-law list flash o settings s = (
   claimed (set-ends o settings list flash s),
   λ (c : Completion) e. claimed (invalid-ends list flash o settings s) c e .register-given,
@@ -224,7 +217,7 @@ starts-by (BootRefused refusal) n ten = absurd (true-is-not-false _ (eq-eqb _ _ 
 starts-by (Starts start) n ten = (start, refl)
 
 pub fallback-law : FallbackLaw
-unfolding FallbackLaw EndsInvalid AcceptanceLaw
+unfolding FallbackLaw AcceptanceLaw
 fallback-law list flash o settings s c e =
     let leaves = claimed (invalid-ends list flash o settings s) c e in
     let left = markInvalid list flash o settings s .otadata in
