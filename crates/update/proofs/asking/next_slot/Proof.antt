@@ -1,5 +1,7 @@
 -- `update::asking::next_slot` meets its contract.
 -- Assumes nothing.
+use lib.ListN.{length}
+use denote.Ref.{now}
 use Rattle.update.proofs.QueryLaws.{next-size, next-counted, next-refused, next-accepted}
 use borrow.Author.Needs.{needs}
 use Rattle.update.proofs.asking.next_slot.Statement.{statement}
@@ -18,16 +20,38 @@ enum-known-checked-2 : tie.Need-enum-known-checked-2
 enum-known-checked-2 c = search needs
 
 read-both-requires : tie.Need-read-both-requires
-read-both-requires c κs = search next-size
+read-both-requires c κs =
+    let told = c .before in
+    let runs = told .before .before in
+    let tests = runs .before in
+    let a = tests .before .before .before .before .args in
+    next-size (now (a .list)) (length (now (a .flash))) (now (a .otadata)) (a .settings) (a .running) _ (tests .accept .ensures) _ (runs .known-running .ensures) _ (told .checked2 .given .1)
 
 next-of-requires : tie.Need-next-of-requires
-next-of-requires c κs = search next-counted
+next-of-requires c κs =
+    let told = c .before .before in
+    let runs = told .before .before in
+    let tests = runs .before in
+    let a = tests .before .before .before .before .args in
+    next-counted (now (a .list)) (length (now (a .flash))) (now (a .otadata)) (a .settings) (a .running) _ (tests .accept .ensures) _ (runs .known-running .ensures) _ (told .checked2 .given .1)
 
 returns : tie.Need-returns
-returns c = search next-refused
+returns c =
+    let told = c .before in
+    let runs = told .before .before in
+    let tests = runs .before in
+    let a = tests .before .before .before .before .args in
+    next-refused (now (a .list)) (length (now (a .flash))) (now (a .otadata)) (a .settings) (a .running) _ (tests .accept .ensures) _ (runs .known-running .ensures) _ (told .checked .given .1)
 
 returns-2 : tie.Need-returns-2
-returns-2 c = search next-accepted
+returns-2 c =
+    let read = c .before in
+    let told = read .before .before in
+    let runs = told .before .before in
+    let tests = runs .before in
+    let a = tests .before .before .before .before .args in
+    next-accepted (now (a .list)) (length (now (a .flash))) (now (a .otadata)) (a .settings) (a .running) _ (tests .accept .ensures) _ (runs .known-running .ensures) _ (told .checked2 .given .1)
+    _ (read .read-both .ensures) _ (c .next-of .ensures)
 
 pub next-slot-spec : {M : Type 1} → statement M
 next-slot-spec =

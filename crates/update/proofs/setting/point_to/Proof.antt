@@ -19,7 +19,11 @@ same-length : tie.Need-same-length
 same-length c = search needs
 
 returns : tie.Need-returns
-returns c = search not-confirmed
+returns c =
+    let tested = c .before .before in
+    let read = tested .before in
+    let a = read .before .before .before .args in
+    not-confirmed (a .n) (a .slot .0) (a .settings) (now (a .otadata)) _ (read .read-both .ensures) _ (tested .unconfirmed .ensures) (c .before .if1 .taken) _ (c .refusal .ensures)
 
 active-naming-requires : tie.Need-active-naming-requires
 active-naming-requires c κs = search needs
@@ -45,7 +49,15 @@ same-length-2 : tie.Need-same-length-2
 same-length-2 c = search needs
 
 returns-2 : tie.Need-returns-2
-returns-2 c = search named-already
+returns-2 c =
+    let told = c .before in
+    let named = told .before .before in
+    let confirmed = named .before in
+    let tested = confirmed .before in
+    let read = tested .before in
+    let a = read .before .before .before .args in
+    named-already (a .n) (a .slot .0) (a .settings) (now (a .otadata)) _ (read .read-both .ensures) _ (tested .unconfirmed .ensures) (confirmed .if1 .left)
+    _ (named .active-naming .ensures) _ (told .enum-told .given .1) _ (c .unchanged .ensures)
 
 same-length-3 : tie.Need-same-length-3
 same-length-3 c = search needs

@@ -1,5 +1,6 @@
 -- `update::setting::write_new` meets its contract.
 -- Assumes nothing.
+use denote.Ref.{now}
 use Rattle.update.proofs.SetLaws.{too-high, written}
 use borrow.Author.Needs.{needs}
 use Rattle.update.proofs.setting.write_new.Statement.{statement}
@@ -27,13 +28,22 @@ unchanged-requires : tie.Need-unchanged-requires
 unchanged-requires c κs = search needs
 
 returns : tie.Need-returns
-returns c = search too-high
+returns c =
+    let told = c .before in
+    let a = told .before .before .before .args in
+    too-high (a .settings) (now (a .otadata)) (a .place) (told .enum-told .given .1) _ (c .refusal .ensures)
 
 same-length : tie.Need-same-length
 same-length c = search needs
 
 returns-2 : tie.Need-returns-2
-returns-2 c = search written
+returns-2 c =
+    let wrote = c .before .before .before in
+    let made = wrote .before in
+    let told = made .before .before .before in
+    let a = told .before .before .before .args in
+    written (a .settings) (now (a .otadata)) (a .place) _ _ (told .place .given .1) _ (made .new-record .ensures) _ (wrote .rewrite-at .ensures)
+    _ (c .unchanged .ensures)
 
 pub write-new-spec : {M : Type 1} → statement M
 write-new-spec =
