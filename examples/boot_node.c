@@ -1,7 +1,7 @@
 /* Checks an app's image and boots a node: two app slots, an old app that works and a new one on trial.
  *
- *   rt staticlib c_api
- *   gcc -Iinclude examples/boot_node.c target/staticlib/libc_api.a -o boot_node
+ *   ./library
+ *   gcc -Iinclude examples/boot_node.c target/staticlib/libota.a -o boot_node
  */
 #include "ota.h"
 #include <inttypes.h>

@@ -1,8 +1,8 @@
 //! Checks an app's image and boots a node: two app slots, an old app that works and a new one on trial.
 //!
 //! ```text
-//! rt staticlib c_api
-//! rustc --edition 2021 -L target/staticlib -l static=c_api examples/boot_node.rs
+//! ./library
+//! rustc --edition 2021 -L target/staticlib -l static=ota examples/boot_node.rs
 //! ```
 
 // From include/ota.h.

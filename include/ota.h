@@ -1,6 +1,6 @@
 /* The C interface of the proved firmware-update library.
  *
- * Link it with the archive of the crate c_api. A slice is a pointer and a count of its elements. `out` is written whole
+ * Link it with libota.a, which the script `library` makes. A slice is a pointer and a count of its elements. `out` is written whole
  * at every call, refused or not, and is zero where nothing is stated. A number that a call returns is document 01's:
  * 0 is done, any other a refusal, unless the call says otherwise.
  *

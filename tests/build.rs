@@ -1,11 +1,11 @@
-//! Links the proved library, `target/staticlib/libc_api.a` of the repository, into this package's programs.
+//! Links the proved library, `target/staticlib/libota.a` of the repository, into this package's programs.
 //! The model and its unit tests do without it.
 
 use std::{env, path::PathBuf};
 
 fn main() {
     let package = PathBuf::from(env::var("CARGO_MANIFEST_DIR").unwrap());
-    let library = package.join("../target/staticlib/libc_api.a");
+    let library = package.join("../target/staticlib/libota.a");
     println!("cargo:rustc-link-arg-bins={}", library.display());
     println!("cargo:rerun-if-changed={}", library.display());
 }

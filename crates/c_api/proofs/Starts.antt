@@ -22,7 +22,8 @@ use Rattle.boot.specs.declared.Reply.{Reply}
 use Rattle.boot.specs.declared.Reply.the-variants.{Refused, Starts}
 use Rattle.boot.specs.Boot.{appValues, sectorValue, readingsOf, marked, usedSector, replyTo, fromMarks, byTests, boot, Outcome as Boot·Outcome, outcome as Boot·outcome}
 use Rattle.boot.proofs.Replies.{one-of-two}
-use Rattle.c_api.specs.Interface.{answer, outcome, ofBoot}
+use Rattle.c_parts.specs.Interface.{answer}
+use Rattle.c_api.specs.Interface.{outcome, ofBoot}
 
 -- ---- the sector of a start
 

@@ -1,7 +1,3 @@
-// The C interface: every call of the library as a function that C and Rust programs link. `include/ota.h` declares them.
-mod checks;
+// The C interface of a node: boot and the calls of an app. `include/ota.h` declares them.
 mod node;
-mod records;
-mod registers;
-mod rewriting;
 mod updates;

@@ -1,9 +1,9 @@
--- `c_api::records::ota_active` meets its contract.
+-- `c_parts::records::ota_active` meets its contract.
 -- Assumes nothing.
 use borrow.Author.Needs.{needs}
-use Rattle.c_api.proofs.Answers.{none-active, one-active}
-use Rattle.c_api.proofs.records.ota_active.Statement.{statement}
-use Rattle.c_api.proofs.records.ota_active.Tie as tie
+use Rattle.c_parts.proofs.Answers.{none-active, one-active}
+use Rattle.c_parts.proofs.records.ota_active.Statement.{statement}
+use Rattle.c_parts.proofs.records.ota_active.Tie as tie
 
 active-record-requires : tie.Need-active-record-requires
 active-record-requires c κs = search needs

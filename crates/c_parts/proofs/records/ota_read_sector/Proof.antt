@@ -1,9 +1,9 @@
--- `c_api::records::ota_read_sector` meets its contract.
+-- `c_parts::records::ota_read_sector` meets its contract.
 -- Assumes nothing.
 use borrow.Author.Needs.{needs}
-use Rattle.c_api.proofs.Answers.{reads-none, reads-good}
-use Rattle.c_api.proofs.records.ota_read_sector.Statement.{statement}
-use Rattle.c_api.proofs.records.ota_read_sector.Tie as tie
+use Rattle.c_parts.proofs.Answers.{reads-none, reads-good}
+use Rattle.c_parts.proofs.records.ota_read_sector.Statement.{statement}
+use Rattle.c_parts.proofs.records.ota_read_sector.Tie as tie
 
 read-sector-requires : tie.Need-read-sector-requires
 read-sector-requires c κs = search needs

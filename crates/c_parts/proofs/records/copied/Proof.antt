@@ -1,12 +1,12 @@
--- `c_api::records::copied` meets its contract: after i turns the first i bytes are the record's.
+-- `c_parts::records::copied` meets its contract: after i turns the first i bytes are the record's.
 -- Assumes nothing.
 use Prim.Native.Nat.{_≤_, _-_}
 use mathlib.Core.Path.{refl, sym}
 use native.Mathlib.Omega.{arith}
 use borrow.Author.Needs.{needs}
 use Rattle.otadata.proofs.Filled.{Filled, filled-none, filled-more, filled-whole}
-use Rattle.c_api.proofs.records.copied.Statement.{statement}
-use Rattle.c_api.proofs.records.copied.Tie as tie
+use Rattle.c_parts.proofs.records.copied.Statement.{statement}
+use Rattle.c_parts.proofs.records.copied.Tie as tie
 
 abbrev Inv-loop : tie.InvT-loop
 Inv-loop bytes rec₀ i₀ rec i = (i ≤ 32) × Filled bytes i rec

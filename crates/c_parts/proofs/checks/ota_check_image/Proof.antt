@@ -1,9 +1,9 @@
--- `c_api::checks::ota_check_image` meets its contract.
+-- `c_parts::checks::ota_check_image` meets its contract.
 -- Assumes nothing.
 use borrow.Author.Needs.{needs}
-use Rattle.c_api.proofs.Answers.{image-refused, image-accepted}
-use Rattle.c_api.proofs.checks.ota_check_image.Statement.{statement}
-use Rattle.c_api.proofs.checks.ota_check_image.Tie as tie
+use Rattle.c_parts.proofs.Answers.{image-refused, image-accepted}
+use Rattle.c_parts.proofs.checks.ota_check_image.Statement.{statement}
+use Rattle.c_parts.proofs.checks.ota_check_image.Tie as tie
 
 check-requires : tie.Need-check-requires
 check-requires c κs = search needs

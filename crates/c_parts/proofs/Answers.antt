@@ -22,7 +22,7 @@ use Rattle.app_image.specs.declared.Facts.{Facts}
 use Rattle.app_image.specs.declared.Checked.{Checked as Image·Checked}
 use Rattle.app_image.specs.declared.Checked.the-variants.{Refused as Image·Refused, Accepted as Image·Accepted}
 use Rattle.app_image.specs.Check.{check, view as Image·view}
-use Rattle.c_api.specs.Interface.{answer, toC, readView, activeView}
+use Rattle.c_parts.specs.Interface.{answer, toC, readView, activeView}
 
 -- ---- a sector
 

@@ -1,10 +1,10 @@
--- `c_api::records::ota_make_record` meets its contract.
+-- `c_parts::records::ota_make_record` meets its contract.
 -- Assumes nothing.
 use mathlib.Core.Path.{ap}
 use borrow.Author.Needs.{needs}
-use Rattle.c_api.specs.Interface.{madeView}
-use Rattle.c_api.proofs.records.ota_make_record.Statement.{statement}
-use Rattle.c_api.proofs.records.ota_make_record.Tie as tie
+use Rattle.c_parts.specs.Interface.{madeView}
+use Rattle.c_parts.proofs.records.ota_make_record.Statement.{statement}
+use Rattle.c_parts.proofs.records.ota_make_record.Tie as tie
 
 make-requires : tie.Need-make-requires
 make-requires c κs = search needs

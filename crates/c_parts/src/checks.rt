@@ -2,7 +2,7 @@
 ghost use mathlib.Core.Path.{_≡_};
 ghost use Rattle.partitions.specs.PartitionList.{checked, view as PartitionList·view};
 ghost use Rattle.app_image.specs.Check.{check as Check·check, view as Check·view};
-ghost use Rattle.c_api.specs.Interface.{answer, toC};
+ghost use Rattle.c_parts.specs.Interface.{answer, toC};
 
 // Tests a partition list, for a flash of that length: 0 with the number of slots and 1 where factory is listed, or 1.
 #[no_mangle]

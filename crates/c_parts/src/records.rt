@@ -4,7 +4,7 @@ ghost use lib.ListN.{length};
 ghost use Rattle.otadata.specs.Words.{checkWord};
 ghost use Rattle.otadata.specs.Records.{made};
 ghost use Rattle.sectors.specs.Sectors.{sectorReading, part, activePart};
-ghost use Rattle.c_api.specs.Interface.{answer, toC, madeView, readView, activeView};
+ghost use Rattle.c_parts.specs.Interface.{answer, toC, madeView, readView, activeView};
 use otadata::RECORD_SIZE;
 use otadata::Sequence;
 use otadata::Verdict;
