@@ -1,5 +1,6 @@
 -- `update::setting::write_new` meets its contract.
 -- Assumes nothing.
+use native.Mathlib.Omega.{arith}
 use denote.Ref.{now}
 use Rattle.update.proofs.SetLaws.{too-high, written}
 use borrow.Author.Needs.{needs}
@@ -22,7 +23,7 @@ rewrite-at-requires : tie.Need-rewrite-at-requires
 rewrite-at-requires c κs =
     let told = c .before .before .before in
     let start = told .before .before .before in
-    (start .pre .1 _ _ (told .place .given .1), start .pre .0)
+    (omega (arith, start .pre .1 _ _ (told .place .given .1)), start .pre .0)
 
 unchanged-requires : tie.Need-unchanged-requires
 unchanged-requires c κs = search needs
