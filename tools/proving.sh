@@ -63,7 +63,7 @@ prove() {
         # shellcheck disable=SC2086
         begin $crates
         # shellcheck disable=SC2086
-        quietly rt check $crates
+        quietly rt check $crates </dev/null
     done <<PLAN
 $plan
 PLAN
