@@ -58,6 +58,8 @@ FILES = {
     "crates/lower/src/lib.rt": LOWER,
     "crates/upper/src/lib.rt": UPPER,
     "crates/upper/proofs/relay/Proof.antt": RELAY,
+    "crates/upper/specs/Lib.antt": "pub mod Days\n",
+    "crates/upper/specs/Days.antt": "use Prim.Native.Nat.{ℕ}\n\nunfoldable pub week : ℕ\nweek = 7\n",
     "crates/broken/src/lib.rt": BROKEN,
     "crates/above/src/lib.rt": "pub fn nothing() {}\n",
 }
@@ -72,7 +74,11 @@ EDITS = {
     "upper/another_type": ("file: src/lib.rt\nold:     7\nnew:     true\n", "NOT REFUSED: it does not reach the prover (status 1)"),
     "upper/same": ("file: src/lib.rt\nold: days\nnew: nights\n", "NOT REFUSED: the crate is still proved with this edit"),
     "upper/no_call": ("file: src/lib.rt\nold: lower::echo(x)\nnew: x\n", "NOT REFUSED: no fact fails, the proof only no longer fits"),
-    "upper/no_name": ("file: proofs/relay/Proof.antt\nold: search needs\nnew: search wants\n", "NOT REFUSED: no fact fails"),
+    "upper/no_name": ("file: proofs/relay/Proof.antt\nold: search needs\nnew: search wants\n", "NOT REFUSED: no fact fails, the proof only no longer fits"),
+    "upper/no_field": ("file: proofs/relay/Proof.antt\nold: c .echo\nnew: c .shout\n", "NOT REFUSED: no fact fails, the proof only no longer fits"),
+    "upper/unread": ("file: proofs/relay/Proof.antt\nold: search needs\nnew: (search needs\n", "NOT REFUSED: no fact fails, the prover cannot read"),
+    "upper/unclosed": ("file: specs/Days.antt\nold: week = 7\nnew: week = (7\n", "NOT REFUSED: no fact fails, the edited definition is not"),
+    "upper/ill_typed": ("file: specs/Days.antt\nold: week = 7\nnew: week = ℕ\n", "NOT REFUSED: no fact fails, the edited definition is not"),
     "broken/seven": ("file: src/lib.rt\nold:     8\nnew:     7\n", "NOT REFUSED: the crate is not proved without the edit either"),
     "above/something": ("file: src/lib.rt\nold: nothing\nnew: something\n", "NOT REFUSED: a crate that it uses is not proved"),
 }
