@@ -87,10 +87,9 @@ def test_library(root):
 def main():
     with tempfile.TemporaryDirectory() as folder:
         root = pathlib.Path(folder)
-        for name in ("samples", "tools", "bench"):
-            shutil.copytree(ROOT / name, root / name)
-        for name in ("report", "library", "crates.txt"):
-            shutil.copy(ROOT / name, root)
+        for name in ("report", "library", "crates.txt", "bench/run", "samples/otadata.bin", "tools/proving.sh"):
+            (root / name).parent.mkdir(exist_ok=True)
+            shutil.copy(ROOT / name, root / name)
         (root / "bin").mkdir()
         (root / "bin" / "rt").write_text(RT)
         (root / "bin" / "rt").chmod(0o755)
