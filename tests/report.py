@@ -7,7 +7,7 @@ import subprocess
 import sys
 
 sys.path.insert(0, __file__.rsplit("/", 1)[0] + "/vectors")
-import otadata as rules
+import records as rules
 
 NAMES = {0: "new", 1: "pending", 2: "valid", 3: "invalid", 4: "aborted", rules.LAST: "undefined"}
 FF = b"\xff"
@@ -19,8 +19,8 @@ def expected(dump):
     sectors = (dump[:4096], dump[4096:])
     lines = ["otadata report"]
     for number, sector in enumerate(sectors):
-        read = rules.fields(sector[:32])
-        lines.append(f"sector {number} " + (f"seq {read[0]} state {NAMES[read[2]]}" if read else "none"))
+        read = rules.sector_reading(sector)
+        lines.append(f"sector {number} " + (f"seq {read.sequence} state {NAMES[read.state]}" if read else "none"))
     holder = rules.active(sectors)
     lines.append("active " + ("none" if holder is None else str(holder)))
     return "\n".join(lines) + "\n"
@@ -32,9 +32,9 @@ def sector(rec, fill=0xFF):
 
 def dumps():
     label = b"vat row 7".ljust(20, b"\0")
-    good = lambda sequence, state: sector(rules.record(sequence, label, state), 0x5A)
+    good = lambda sequence, state: sector(rules.record(sequence, state, label), 0x5A)
     blank = FF * 4096
-    example = sector(rules.record(1, FF * 20, rules.LAST)) + blank
+    example = sector(rules.record(1, rules.LAST)) + blank
     yield "document 01's example", example
     yield "blank", blank + blank
     yield "zero", bytes(8192)

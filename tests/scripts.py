@@ -16,7 +16,7 @@ mkdir -p target/bin target/staticlib
 case "$*" in
 "$FAILING") echo "not proved" && exit 1 ;;
 "check report") printf '#!/bin/sh\\nwc -c\\n' >target/bin/report && chmod +x target/bin/report ;;
-staticlib*) : >"$2.o" && ar rcs "target/staticlib/lib$2.a" "$2.o" && rm "$2.o" ;;
+"staticlib c_api") : >target/staticlib/libc_api.a ;;
 esac
 """
 FIRST = "report: proving and building it first, half a minute to two\n"

@@ -1,181 +1,52 @@
-#!/usr/bin/env python3
-"""Makes the cases of the program boot_vectors, and what it must print for each.
+"""Cases of boot and of power cuts, and document 01's rules of boot and demand 3's claim.
 
-Written from document 01 and demand 3, and independent of the Rattle code: the check word is zlib's CRC-32, and a rewrite is a list
-of stores.
-  boot.py           writes crates/boot_vectors/stdin and stdout
-  boot.py --check   fails where the two files are not what this script makes
-
-The program has a flash of 2,097,152 bytes, and a buffer of 8,200 bytes of which otadata is the front; both are zero at first.
-A case is 128 bytes; numbers are little-endian:
-    0  kind: 1 patch of the flash, 2 list, 3 lay otadata, 4 stores, 5 lay otadata and boot, 6 boot on otadata as it stands, 7 cuts
-    1  settings: 1 rollback, 2 anti-rollback, 3 both
-    2  chip id (2 bytes), or number of the list's words (1 byte)
-    4  eFuse register, offset of a patch, or length of the flash
-    8  length of otadata, number of bytes of a patch, or number of stores
-   12  seed of sector 0's filler, or number of the rewritten sector
-   13  seed of sector 1's filler
-   16  record of sector 0 or of the rewrite, bytes of a patch, or the list's words, at most 28
-   48  record of sector 1
-A seed of 0 fills a sector after its record with 0xFF; any other, s, with the bytes (s + 7 i + 13 (i / 256)) mod 256.
-Stores does the first stores of a rewrite. Cuts does them all, boots on a copy before the first and after each, and leaves otadata
-as it was. What is printed:
-    boot NUMBER KIND SLOT SECTOR REGISTER FIRST SECOND SUM
-         the kind of the app is 0 none, 1 factory, 2 slot; the sector is 2 for none; then the record bytes of each sector, or `kept`
-         where they did not change, and a sum that any byte of the buffer changes
-    cuts FROM TO SEQUENCE STATE LABEL NUMBER KIND SLOT SECTOR REGISTER SEQUENCE STATE LABEL SEQUENCE STATE LABEL
-         for a run of cuts: what the rewritten sector reads as (0 0 0 for none; the sum of the label), the reply of the next boot,
-         and what the two sectors read as after it
+Independent of the Rattle code.
 """
 import collections
-import functools
 import itertools
-import operator
-import pathlib
 import random
 import struct
 import sys
-import zlib
 
-HERE = pathlib.Path(__file__).resolve().parents[2] / "crates" / "boot_vectors"
-SIZE = 1 << 21
-BUFFER = 8200
-SECTOR = 4096
+from cases import LAST, SECTOR, SIZE, total
+from layers import FACTORY, add_list, check_image, checksum, listing, raised, slots_in, version
+from records import (ABORTED, BLANK, FF, INVALID, LABEL, NEW, PENDING, STATES, UNDEFINED, VALID, add_stores, named, put_store, reading,
+                     record, shown, usable)
+
 UNIT = 65536
-LAST = 0xFFFFFFFF
-STATES = NEW, PENDING, VALID, INVALID, ABORTED, UNDEFINED = [0, 1, 2, 3, 4, LAST]
-FACTORY = "factory"
-FF = b"\xff"
-BLANK = FF * 32
 
-Reading = collections.namedtuple("Reading", "sequence label state")
 Settings = collections.namedtuple("Settings", "rollback anti efuse chip")
 Reply = collections.namedtuple("Reply", "number app sector register")
 
 
-# ---- records and rewrites, as document 01 has them
+# ---- the apps in the flash
 
-def check_word(sequence):
-    return zlib.crc32(struct.pack("<I", sequence), LAST)
+class Flash:
+    """The checks of the images in a flash, each made once while the flash stays as it is."""
 
+    def __init__(self, content):
+        self.bytes = content
+        self.checked = {}
+        self.met = set()
 
-def record(sequence, state, label=FF * 20):
-    return struct.pack("<I20sII", sequence, label, state, check_word(sequence))
-
-
-@functools.lru_cache(None)
-def reading(rec):
-    """What a record reads as, or None."""
-    sequence, label, state, check = struct.unpack("<I20sII", rec)
-    if 1 <= sequence < LAST and check == check_word(sequence) and state in STATES:
-        return Reading(sequence, label, state)
-    return None
-
-
-def usable(read):
-    return read is not None and read.state not in (INVALID, ABORTED)
+    def version(self, place, chip):
+        """The secure version of the image in a part of the flash, or None where it is refused."""
+        if (place, chip) not in self.checked:
+            self.checked[place, chip] = check_image(bytes(self.bytes[slice(*place)]), chip)
+        answer = self.checked[place, chip]
+        self.met.add(answer[0])
+        return answer[3] if answer[0] == 0 else None
 
 
-def one_store(sector, rec, m):
-    if m < SECTOR:
-        sector[m] = 0xFF
-    else:
-        sector[31 - (m - SECTOR)] = rec[31 - (m - SECTOR)]
+def passes(places, flash, settings, app):
+    found = flash.version(places[app], settings.chip)
+    return found is not None and (not settings.anti or found >= version(settings.efuse))
 
 
 def restated(sector, state):
     """The sector rewritten with its record in another state."""
     read = reading(sector[:32])
     return record(read.sequence, state, read.label) + FF * (SECTOR - 32)
-
-
-# ---- list, image and register
-
-@functools.lru_cache(None)
-def listing(words, flash):
-    """Where each app of a list lies, or None where the list or the flash breaks the rules."""
-    if flash > 16_777_216 or len(words) % 3 != 0:
-        return None
-    places = {}
-    for subtype, offset, size in zip(words[::3], words[1::3], words[2::3]):
-        app = FACTORY if subtype == 0 else subtype - 16
-        if app in places or offset % UNIT or size == 0 or size % SECTOR or offset + size > flash:
-            return None
-        if any(offset < end and start < offset + size for start, end in places.values()):
-            return None
-        places[app] = (offset, offset + size)
-    slots = [app for app in places if app != FACTORY]
-    return places if 2 <= len(slots) <= 8 and sorted(slots) == list(range(len(slots))) else None
-
-
-def xored(data):
-    return functools.reduce(operator.xor, data, 0xEF)
-
-
-def word(data, at):
-    return int.from_bytes(data[at:at + 4], "little")
-
-
-def check_image(image, chip):
-    """The number of an image's refusal, or 0, and its secure version."""
-    if len(image) < 288:
-        return 20, None
-    if image[0] != 0xE9:
-        return 21, None
-    if not 1 <= image[1] <= 16:
-        return 22, None
-    if image[12] + 256 * image[13] != chip:
-        return 23, None
-    if image[23] > 1:
-        return 24, None
-    at, data, first = 24, b"", None
-    for _ in range(image[1]):
-        size = word(image, at + 4)
-        if at + 8 > len(image) or size % 4 or at + 8 + size > len(image):
-            return 25, None
-        first = size if first is None else first
-        data += image[at + 8:at + 8 + size]
-        at += 8 + size
-    if first < 256 or word(image, 32) != 0xABCD5432:
-        return 26, None
-    padded = at - at % 16 + 16
-    if padded + 32 * image[23] > len(image):
-        return 27, None
-    if image[padded - 1] != xored(data):
-        return 28, None
-    if word(image, 36) > 32:
-        return 29, None
-    return 0, word(image, 36)
-
-
-def ones(register):
-    return bin(register).count("1")
-
-
-def raised(register, v):
-    for k in range(32):
-        if ones(register) < v:
-            register |= 1 << k
-    return register
-
-
-class Flash:
-    def __init__(self):
-        self.bytes = bytearray(SIZE)
-        self.checked = {}
-        self.met = set()
-
-    def put(self, at, data):
-        self.bytes[at:at + len(data)] = data
-        self.checked = {}
-
-    def version(self, place, chip):
-        """The secure version of the image in a part of the flash, or None where it is refused."""
-        if (place, chip) not in self.checked:
-            self.checked[place, chip] = check_image(bytes(self.bytes[slice(*place)]), chip)
-        number, version = self.checked[place, chip]
-        self.met.add(number)
-        return version
 
 
 # ---- boot
@@ -189,7 +60,7 @@ def boot(words, length, flash, otadata, settings):
         return Reply(2, None, None, settings.efuse), otadata
     if settings.anti and (not settings.rollback or FACTORY in places):
         return Reply(3, None, None, settings.efuse), otadata
-    slots = len(places) - (FACTORY in places)
+    slots = slots_in(places)
     sectors = [otadata[:SECTOR], otadata[SECTOR:]]
     reads = [reading(sector[:32]) for sector in sectors]
 
@@ -200,21 +71,14 @@ def boot(words, length, flash, otadata, settings):
             reads[k] = reading(sectors[k][:32])
 
     # step 2
-    def passes(app):
-        version = flash.version(places[app], settings.chip)
-        return version is not None and (not settings.anti or version >= ones(settings.efuse))
-
-    def named(k):
-        return (reads[k].sequence - 1) % slots
-
     tries = [k for k in (0, 1) if usable(reads[k])]
     if len(tries) == 2 and reads[1].sequence > reads[0].sequence:
         tries = [1, 0]
-    barred = [named(k) for k in (0, 1) if reads[k] and not usable(reads[k])]
-    ways = [(named(k), k) for k in tries]
+    barred = [named(read.sequence, slots) for read in reads if read and not usable(read)]
+    ways = [(named(reads[k].sequence, slots), k) for k in tries]
     ways += [(FACTORY, None)] if FACTORY in places else []
     searched = [(slot, None) for slot in range(slots) if slot not in barred]
-    chosen = next((way for way in ways + searched if passes(way[0])), None)
+    chosen = next((way for way in ways + searched if passes(places, flash, settings, way[0])), None)
     if chosen is None:
         return Reply(10, None, None, settings.efuse), b"".join(sectors)
     app, through = chosen
@@ -245,105 +109,83 @@ def reads_after(before, rec, k):
 def next_boot(p, read, untouched, places, flash, settings):
     """The reply of the next boot and what the two sectors read as after it, where sector p reads so and the other one is untouched.
     The untouched record is usable, not pending while rollback is on, and names an app that passes."""
-    slots = len(places) - (FACTORY in places)
+    slots = slots_in(places)
     both = {p: read, 1 - p: untouched}
     if read is not None and settings.rollback and read.state == PENDING:
         both[p] = read._replace(state=ABORTED)
-    active = usable(both[p]) and (both[p].sequence, 1 - p) > (untouched.sequence, p)
-    start = p if active and passes_in(places, flash, settings, (both[p].sequence - 1) % slots) else 1 - p
-    reply = Reply(0, (both[start].sequence - 1) % slots, start, settings.efuse)
+    first = usable(both[p]) and (both[p].sequence, 1 - p) > (untouched.sequence, p)
+    start = p if first and passes(places, flash, settings, named(both[p].sequence, slots)) else 1 - p
+    reply = Reply(0, named(both[start].sequence, slots), start, settings.efuse)
     if settings.rollback and both[start].state == NEW:
         both[start] = both[start]._replace(state=PENDING)
     return reply, (both[0], both[1])
 
 
-def passes_in(places, flash, settings, app):
-    version = flash.version(places[app], settings.chip)
-    return version is not None and not (settings.anti and version < ones(settings.efuse))
-
-
 # ---- cases and their lines
-
-@functools.lru_cache(None)
-def filler(seed, count):
-    return bytes((seed + 7 * i + 13 * (i // 256)) % 256 if seed else 0xFF for i in range(count))
-
-
-WEIGHTS = [pow(257, BUFFER - 1 - i, 4_294_967_291) for i in range(BUFFER)]
-
-
-def total(data):
-    return sum(map(operator.mul, WEIGHTS[BUFFER - len(data):], data)) % 4_294_967_291
-
 
 def numbers(reply):
     kind = 0 if reply.app is None else 1 if reply.app == FACTORY else 2
     return (reply.number, kind, reply.app if kind == 2 else 0, 2 if reply.sector is None else reply.sector, reply.register)
 
 
-@functools.lru_cache(None)
-def shown(read):
-    return (0, 0, 0) if read is None else (read.sequence, read.state, total(read.label))
+def told(read):
+    """What a sector reads as."""
+    return record(read.sequence, read.state, read.label).hex() if read else "none"
 
 
-class Cases:
-    def __init__(self):
-        self.stdin = bytearray()
-        self.stdout = []
-        self.flash = Flash()
-        self.words = ()
+def pair(seed):
+    """The start and the step of a sector's filler: seed 0 leaves the sector erased."""
+    return (seed, 1) if seed else (0xFF, 0)
+
+
+class Boots:
+    """Adds the cases of boot, and keeps how many boots and rewrites there are and the numbers that were met."""
+
+    def __init__(self, cases):
+        self.cases = cases
+        self.flash = Flash(cases.flash)
         self.length = 0
-        self.buffer = bytearray(BUFFER)
         self.met = collections.Counter()
-        self.boots = self.pairs = 0
+        self.boots = self.rewrites = 0
 
-    def add(self, kind, half=0, a=0, b=0, more=(0, 0), body=b"", flags=0):
-        self.stdin += struct.pack("<BBHIIBBxx112s", kind, flags, half, a, b, *more, body)
+    def add(self, name, settings, b, laying):
+        flags = laying.get("flags", 0) + settings.rollback + 2 * settings.anti
+        self.cases.add(name, settings.efuse, b, self.length, settings.chip, flags, laying.get("body", b""))
 
-    def add_set(self, kind, settings, b=0, more=(0, 0), body=b""):
-        self.add(kind, settings.chip, settings.efuse, b, more, body, settings.rollback + 2 * settings.anti)
+    def clear(self):
+        self.cases.fill(0, SIZE, (0, 0))
 
     def patch(self, at, data):
-        for start in range(0, len(data), 112):
-            piece = data[start:start + 112]
-            if any(piece):
-                self.add(1, a=at + start, b=len(piece), body=piece)
-        self.flash.put(at, data)
+        self.cases.patch(at, data)
+        self.flash.checked = {}
 
     def list(self, words, length=SIZE):
         """The list and the flash of the boots that follow."""
-        if (tuple(words), length) != (self.words, self.length):
-            self.add(2, len(words), length, body=struct.pack(f"<{len(words)}I", *words))
-            self.words, self.length = tuple(words), length
+        if tuple(words) != self.cases.words or length != self.length:
+            add_list(self.cases, words, length)
+            self.length = length
 
-    def lay(self, recs, seeds):
-        for k, rec in enumerate(recs):
-            end = SECTOR if k == 0 else BUFFER - SECTOR
-            self.buffer[SECTOR * k:SECTOR * k + end] = rec + filler(seeds[k], end)[32:]
+    def places(self):
+        return listing(self.cases.words, self.length)
+
+    def model(self, otadata, settings):
+        return boot(self.cases.words, self.length, self.flash, otadata, settings)
 
     def stores(self, p, rec, k):
-        """The first k stores of a rewrite of sector p."""
-        self.add(4, b=k, more=(p, 0), body=rec)
-        sector = self.buffer[SECTOR * p:SECTOR * p + SECTOR]
-        for m in range(k):
-            one_store(sector, rec, m)
-        self.buffer[SECTOR * p:SECTOR * p + SECTOR] = sector
+        add_stores(self.cases, p, rec, range(k))
 
     def boot(self, settings, recs=None, want=None, length=2 * SECTOR, seeds=(0, 0), writes=None):
         """A boot on these records, or on otadata as it stands. What is wanted is how the reply begins, and which sectors change."""
-        if recs is not None:
-            self.lay(recs, seeds)
-        self.add_set(6 if recs is None else 5, settings, length, seeds, b"".join(recs or ()))
-        before = bytes(self.buffer)
-        reply, after = boot(self.words, self.length, self.flash, before[:length], settings)
+        cases = self.cases
+        self.add("boot", settings, length, {} if recs is None else cases.on(recs, [pair(seed) for seed in seeds]))
+        before = [cases.sector(k) for k in (0, 1)]
+        reply, after = self.model(bytes(cases.buffer[:length]), settings)
         assert want is None or reply[:len(want)] == want, (reply, want)
-        self.buffer[:length] = after
-        changed = [k for k in (0, 1) if self.buffer[SECTOR * k:SECTOR * k + SECTOR] != before[SECTOR * k:SECTOR * k + SECTOR]]
+        cases.buffer[:length] = after
+        changed = [k for k in (0, 1) if cases.sector(k) != before[k]]
         assert writes is None or changed == list(writes), (changed, writes)
         self.watch(reply, settings)
-        left = [bytes(self.buffer[at:at + 32]) for at in (0, SECTOR)]
-        kept = ["kept" if left[k] == before[SECTOR * k:SECTOR * k + 32] else left[k].hex() for k in (0, 1)]
-        self.stdout.append(" ".join(["boot", *map(str, numbers(reply)), *kept, str(total(self.buffer))]))
+        cases.say("boot", *numbers(reply), total(cases.buffer))
         self.boots += 1
 
     def watch(self, reply, settings):
@@ -352,50 +194,54 @@ class Cases:
         if reply.number != 0:
             assert reply[1:] == (None, None, settings.efuse)
             return
-        places = listing(self.words, self.length)
-        assert passes_in(places, self.flash, settings, reply.app)
+        places = self.places()
+        assert passes(places, self.flash, settings, reply.app)
         if reply.sector is not None:
-            read = reading(bytes(self.buffer[SECTOR * reply.sector:SECTOR * reply.sector + 32]))
-            assert usable(read) and (read.sequence - 1) % (len(places) - (FACTORY in places)) == reply.app
+            read = reading(self.cases.sector(reply.sector, 32))
+            assert usable(read) and named(read.sequence, slots_in(places)) == reply.app
 
     def cuts(self, settings, p, olds, rec, earlier=(), seeds=(0, 0), seen=None):
         """All cuts of a rewrite of sector p, after earlier rewrites that were cut. What follows each is what demand 3 claims, and
         what the model of boot says too. What is seen is the sectors started through, in the order of the cuts."""
-        self.lay(olds, seeds)
-        self.add(3, more=seeds, body=b"".join(olds))
-        for other, k in earlier:
-            self.stores(p, other, k)
-        self.add_set(7, settings, more=(p, 0), body=rec)
-        places = listing(self.words, self.length)
-        sectors = [self.buffer[:SECTOR], self.buffer[SECTOR:2 * SECTOR]]
-        before, untouched = bytes(sectors[p]), reading(bytes(sectors[1 - p][:32]))
-        slots = len(places) - (FACTORY in places)
-        assert all(rewrite == BLANK or reading(rewrite) for rewrite in (olds[p], *[other for other, _ in earlier]))
-        assert usable(untouched) and not (settings.rollback and untouched.state == PENDING)
-        assert passes_in(places, self.flash, settings, (untouched.sequence - 1) % slots) and reading(rec)
+        cases = self.cases
+        assert all(old == BLANK or reading(old) for old in (olds[p], *[other for other, _ in earlier])) and reading(rec)
+        pairs = [pair(seed) for seed in seeds]
+        for turn, (other, k) in enumerate(earlier):
+            add_stores(cases, p, other, range(k), **cases.on(olds, pairs, other) if turn == 0 else {})
+        self.add("cuts", settings, p, cases.lent(rec) if earlier else cases.on(olds, pairs, rec))
         runs = []
+        for k, line in enumerate(self.followers(settings, p, rec)):
+            if not runs or runs[-1][2] != line:
+                runs.append([k, k, line])
+            runs[-1][1] = k
+        through = [sector for sector, _ in itertools.groupby(run[2][4] for run in runs)]
+        assert seen is None or through == list(seen), (through, seen)
+        for start, end, line in runs:
+            cases.say("cuts", start, end, *line)
+        self.rewrites += 1
+
+    def followers(self, settings, p, rec):
+        """What follows each cut, by the claim and by the model of boot."""
+        places = self.places()
+        sectors = [bytearray(self.cases.sector(k)) for k in (0, 1)]
+        before, untouched = bytes(sectors[p]), reading(bytes(sectors[1 - p][:32]))
+        assert usable(untouched) and not (settings.rollback and untouched.state == PENDING)
+        assert passes(places, self.flash, settings, named(untouched.sequence, slots_in(places)))
         for k in range(4129):
             if k > 0:
-                one_store(sectors[p], rec, k - 1)
+                put_store(sectors[p], rec, k - 1)
             claimed = self.claimed(p, reads_after(before, rec, k), untouched, places, settings)
-            replied, after = boot(self.words, self.length, self.flash, bytes(sectors[0] + sectors[1]), settings)
-            found = reading(bytes(sectors[p][:32]))
-            modelled = shown(found) + numbers(replied) + shown(reading(after[:32])) + shown(reading(after[SECTOR:SECTOR + 32]))
+            replied, after = self.model(bytes(sectors[0] + sectors[1]), settings)
+            modelled = shown(sectors[p]), *numbers(replied), shown(after[:SECTOR]), shown(after[SECTOR:])
             if claimed != modelled:
                 sys.exit(f"the claim and the model of boot differ at cut {k}: {claimed} {modelled}")
-            if not runs or runs[-1][2] != claimed:
-                runs.append([k, k, claimed])
-            runs[-1][1] = k
-        through = [sector for sector, _ in itertools.groupby(run[2][6] for run in runs)]
-        assert seen is None or through == list(seen), (through, seen)
-        self.stdout += [f"cuts {start} {end} " + " ".join(map(str, line)) for start, end, line in runs]
-        self.pairs += 1
+            yield claimed
 
     def claimed(self, p, read, untouched, places, settings):
         """The numbers of what demand 3 claims, where sector p reads so."""
         reply, left = next_boot(p, read, untouched, places, self.flash, settings)
-        assert usable(left[reply.sector]) and passes_in(places, self.flash, settings, reply.app)
-        return shown(read) + numbers(reply) + shown(left[0]) + shown(left[1])
+        assert usable(left[reply.sector]) and passes(places, self.flash, settings, reply.app)
+        return told(read), *numbers(reply), told(left[0]), told(left[1])
 
 
 # ---- the flash: an image at the start of each unit of 65,536 bytes
@@ -414,7 +260,7 @@ def image(secure=3, chip=CHIP, size=256, flag=0, puts=()):
     made[23] = flag
     struct.pack_into("<II", made, 24, 0x3F400020, size)
     struct.pack_into("<II", made, 32, 0xABCD5432, secure)
-    made[padded - 1] = xored(made[32:e])
+    made[padded - 1] = checksum([made[32:e]])
     for at, data in puts:
         made[at:at + len(data)] = data
     return bytes(made)
@@ -463,6 +309,7 @@ def listed(slots, factory=None, place=None, order=None, sizes={}):
 
 
 def add_flash(cases):
+    cases.clear()
     for name, made in IMAGES.items():
         cases.patch(UNIT * UNITS[name], made)
 
@@ -471,7 +318,6 @@ ROLLBACK = Settings(True, False, 7, CHIP)
 PLAIN = ROLLBACK._replace(rollback=False)
 ANTI = ROLLBACK._replace(anti=True)
 ALL_SETTINGS = (PLAIN, ROLLBACK, ANTI)
-LABEL = bytes(range(65, 85))
 LABELS = (LABEL, bytes(20))
 DAMAGED = {
     "check word": record(5, VALID)[:31] + b"\x00",
@@ -908,29 +754,14 @@ def add_cut_lists(cases):
             cases.cuts(ROLLBACK, p, (kept, old)[::order], rec, earlier, seeds=(2, 3))
 
 
-def all_cases():
-    cases = Cases()
+def add_all(cases):
+    """Gives the number of boots and of rewrites of which all cuts are made."""
+    boots = Boots(cases)
     for add in (add_flash, add_examples, add_active, add_grid, add_fallbacks, add_same_slot, add_search, add_marks, add_new,
                 add_anti_rollback, add_register, add_damaged, add_bytes, add_refusals, add_images, add_lives):
-        add(cases)
-    add_random(cases, random.Random(20261117))
-    assert set(cases.met) == {0, 1, 2, 3, 10} and cases.flash.met == {0, *range(21, 30)}
+        add(boots)
+    add_random(boots, random.Random(20261117))
+    assert set(boots.met) == {0, 1, 2, 3, 10} and boots.flash.met == {0, *range(21, 30)}
     for add in (add_rewrites, add_cut_states, add_cut_apps, add_cut_sequences, add_cut_lists):
-        add(cases)
-    assert len(cases.stdin) % 128 == 0 and len(cases.stdin) < 500_000
-    return cases
-
-
-def main():
-    cases = all_cases()
-    made = {"stdin": bytes(cases.stdin), "stdout": ("\n".join(cases.stdout) + "\n").encode()}
-    for name, content in made.items():
-        if "--check" not in sys.argv:
-            (HERE / name).write_bytes(content)
-        elif (HERE / name).read_bytes() != content:
-            sys.exit(f"boot_vectors/{name} is not what tests/vectors/boot.py makes")
-    print(f"boot vectors: {cases.boots} boots and all cuts of {cases.pairs} rewrites, in {len(cases.stdin) // 128} cases")
-
-
-if __name__ == "__main__":
-    main()
+        add(boots)
+    return boots.boots, boots.rewrites

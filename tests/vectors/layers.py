@@ -1,32 +1,19 @@
-#!/usr/bin/env python3
-"""Makes the cases of the program layer_vectors, and what it must print for each.
+"""Cases of the eFuse register, partition lists, their parts and app images, and document 01's rules of them.
 
-Written from document 01 and independent of the Rattle code.
-  layers.py           writes crates/layer_vectors/stdin and stdout
-  layers.py --check   fails where the two files are not what this script makes
-
-The program has a buffer of 1,048,576 bytes, zero at first. Fill and patch change it and print nothing; fill makes byte i
-(7 i + 13 (i / 256) + 29 (i / 65,536)) mod 256. The flash of a part and the image of a check are its first bytes.
-A case is 128 bytes; numbers are little-endian:
-    0  kind: 1 version, 2 raise, 3 list, 4 part, 5 fill, 6 patch, 7 image
-    1  the app of a part: 0 factory, 1 a slot
-    2  number of the list's words (2 bytes), at most 300
-    4  register, slot number, start of a fill, offset of a patch, or length of the image
-    8  secure version, end of a fill, number of bytes of a patch, chip id, or length of the flash (8 bytes)
-   16  the list's first 28 words, of which 24 to 26 repeat after them, or the bytes of a patch
+Independent of the Rattle code.
 """
+import functools
 import itertools
-import pathlib
+import operator
 import random
 import struct
-import sys
 
-HERE = pathlib.Path(__file__).resolve().parents[2] / "crates" / "layer_vectors"
-BUFFER = 1 << 20
+from cases import LAST, SECTOR, filler, total
+
 FLASH = 16_777_216
-SECTOR = 4096
+IMAGES = 1 << 20  # the front of the flash that holds an image or the parts
 ALIGN = 65536
-LAST = 0xFFFFFFFF
+FACTORY = "factory"
 
 
 # ---- the rules of document 01
@@ -43,8 +30,9 @@ def raised(register, v):
     return register
 
 
+@functools.lru_cache(None)
 def listing(words, flash):
-    """The entries of a list that keeps the rules, by subtype, or None."""
+    """Where each app of a list lies, or None where the list or the flash breaks the rules."""
     if flash > FLASH or len(words) % 3 != 0:
         return None
     entries = [words[i:i + 3] for i in range(0, len(words), 3)]
@@ -58,16 +46,18 @@ def listing(words, flash):
     ranges = sorted(by_subtype.values())
     if any(before[1] > after[0] for before, after in zip(ranges, ranges[1:])):
         return None
-    return by_subtype
+    return {subtype - 16 if subtype else FACTORY: places for subtype, places in by_subtype.items()}
 
 
-def app_part(words, flash, subtype):
+def slots_in(places):
+    """The number of slots of a list."""
+    return len(places) - (FACTORY in places)
+
+
+def app_part(words, flash, app):
     """The part of the flash of an app: empty where the list is refused or the app is not listed."""
-    entries = listing(words, len(flash))
-    if entries is None or subtype not in entries:
-        return b""
-    start, end = entries[subtype]
-    return flash[start:end]
+    places = listing(words, len(flash))
+    return flash[slice(*places[app])] if places and app in places else b""
 
 
 def word(data, at):
@@ -75,11 +65,7 @@ def word(data, at):
 
 
 def checksum(datas):
-    total = 0xEF
-    for data in datas:
-        for byte in data:
-            total ^= byte
-    return total
+    return functools.reduce(operator.xor, b"".join(datas), 0xEF)
 
 
 def check_image(image, chip):
@@ -112,91 +98,64 @@ def check_image(image, chip):
 
 # ---- cases and their lines
 
-def filler(i):
-    return (i * 7 + i // 256 * 13 + i // 65536 * 29) % 256
+class Layers:
+    """Adds the cases of the layers, and keeps the answers to images that were met."""
 
-
-FILLED = bytes(filler(i) for i in range(BUFFER))
-
-
-class Cases:
-    def __init__(self):
-        self.stdin = bytearray()
-        self.stdout = []
-        self.buffer = bytearray(BUFFER)
+    def __init__(self, cases):
+        self.cases = cases
         self.met = set()
 
-    def add(self, kind, a=0, b=0, app=0, words=0, body=b""):
-        self.stdin += struct.pack("<BBHIQ112s", kind, app, words, a, b, body)
-
-    def print(self, line):
-        self.stdout.append(line)
-
     def version(self, register):
-        self.add(1, register)
-        self.print(f"version {version(register)}")
+        self.cases.add("version", register)
+        self.cases.say("version", version(register))
 
     def raised(self, register, v, wanted=None):
         got = raised(register, v)
         assert wanted in (None, got), (register, v)
-        self.add(2, register, v)
-        self.print(f"raise {got}")
+        self.cases.add("raise", register, v)
+        self.cases.say("raise", got)
 
-    def fill(self, start, end):
-        self.add(5, start, end)
-        self.buffer[start:end] = FILLED[start:end]
-
-    def place(self, content):
-        """Patches the front of the buffer where it is not the content yet."""
-        at = 0
-        while at < len(content):
-            if self.buffer[at] == content[at]:
-                at += 1
-                continue
-            piece = content[at:at + 112]
-            while piece[-1] == self.buffer[at + len(piece) - 1]:
-                piece = piece[:-1]
-            self.add(6, at, len(piece), body=piece)
-            self.buffer[at:at + len(piece)] = piece
-            at += len(piece)
+    def fill(self):
+        self.cases.fill(0, IMAGES, (0, 1))
 
     def list(self, words, flash=FLASH, right=None):
-        words = repeated(words)
-        entries = listing(words, flash)
-        assert right in (None, entries is not None), (words, flash)
-        self.add(3, b=flash, words=len(words), body=struct.pack(f"<{len(words[:28])}I", *words[:28]))
-        if entries is None:
-            self.print("list refused 1")
-        else:
-            self.print(f"list {len(entries) - (0 in entries)} {'factory' if 0 in entries else 'no factory'}")
+        places = add_list(self.cases, words, flash)
+        assert right in (None, places is not None), (words, flash)
 
-    def part(self, words, slot, length, flash=BUFFER):
+    def part(self, words, slot, length, flash=IMAGES):
         """The part of a slot, or of factory, and the length that it must have."""
-        words = repeated(words)
-        found = app_part(words, bytes(self.buffer[:flash]), 0 if slot is None else 16 + slot)
+        if self.cases.words != as_given(words):
+            self.list(words, flash)
+        found = app_part(self.cases.words, bytes(self.cases.flash[:flash]), FACTORY if slot is None else slot)
         assert len(found) == length, (words, slot, flash)
-        self.add(4, slot or 0, flash, app=0 if slot is None else 1, words=len(words),
-                 body=struct.pack(f"<{len(words[:28])}I", *words[:28]))
-        self.print(f"part {len(found)} {found[:8].hex()}")
+        name = "factory" if slot is None else "part"
+        self.cases.add(name, slot or 0, c=flash)
+        self.cases.say(name, len(found), total(found))
 
     def image(self, content, wanted=None, length=None, chip=0):
-        """An image at the front of the buffer. What is wanted is the answer's number, or how the answer begins."""
-        self.place(bytes(content))
+        """An image at the front of the flash. What is wanted is the answer's number, or how the answer begins."""
+        self.cases.patch(0, content)
         length = len(content) if length is None else length
-        answer = check_image(bytes(self.buffer[:length]), chip)
+        answer = check_image(bytes(self.cases.flash[:length]), chip)
         wanted = (wanted,) if isinstance(wanted, int) else wanted
         assert wanted is None or answer[:len(wanted)] == wanted, (answer, wanted)
         self.met.add(answer[0])
-        self.add(7, length, chip)
-        if answer[0] == 0:
-            self.print("image accepted " + " ".join(map(str, answer[1:])))
-        else:
-            self.print("image refused " + " ".join(map(str, answer)))
+        self.cases.add("image", c=length, half=chip)
+        self.cases.say("image", *(*answer, 0, 0, 0)[:5])
 
 
-def repeated(words):
-    """The list as the program makes it of the first 28 words."""
-    return [words[i if i < 28 else 24 + i % 3] for i in range(len(words))]
+def as_given(words):
+    """The list as a case gives it: the words after the 28th are 0."""
+    return tuple(words[:28]) + (0,) * (len(words) - 28)
+
+
+def add_list(cases, words, flash):
+    """A list, which those cases that need one have from now on. Gives where its apps lie."""
+    cases.words = as_given(words)
+    places = listing(cases.words, flash)
+    cases.add("list", flash % (1 << 32), flash >> 32, half=len(words), body=struct.pack(f"<{len(words[:28])}I", *words[:28]))
+    cases.say("list", *((1, 0, 0) if places is None else (0, slots_in(places), int(FACTORY in places))))
+    return places
 
 
 # ---- the eFuse register
@@ -320,7 +279,7 @@ def add_random_lists(cases, rand):
 
 
 def add_parts(cases):
-    cases.fill(0, BUFFER)
+    cases.fill()
     mixed = slots_of(4, factory=2, order=(2, 0, 3, 1))
     mixed[2] = SECTOR  # slot 2
     for slot in (None, 0, 1, 2, 3):
@@ -332,12 +291,15 @@ def add_parts(cases):
         cases.part(mixed, slot, 0)
     cases.part(slots_of(2), None, 0)
     wrong = [[], mixed[:-1], mixed + mixed[:3], changed(mixed, 1, 2 * ALIGN + SECTOR), changed(mixed, 6, 1)]
-    for words, flash in [(words, BUFFER) for words in wrong] + [(mixed, 6 * ALIGN - 1), (mixed, 0)]:  # refused
+    for words, flash in [(words, IMAGES) for words in wrong] + [(mixed, 6 * ALIGN - 1), (mixed, 0)]:  # refused
         for slot in (None, 0, 3):
             cases.part(words, slot, 0, flash)
 
 
 # ---- app images
+
+FILLED = filler(0, 1, IMAGES)
+
 
 def build(lengths, magic=0xE9, count=None, entry_address=0x40080400, chip=0, flag=0, descriptor=0xABCD5432, secure=1, wrong=0,
           puts=(), cut=0, more=0):
@@ -400,7 +362,7 @@ def add_segment_faults(cases):
     sixteen = [256] + [4] * 15
     last = 24 + 264 + 14 * 12  # the header of the sixteenth segment
     cases.image(build(sixteen), (0, 480))
-    sizes = (1, 2, 3, 254, LAST, LAST - 3, (1 << 32) - 32, (1 << 32) - 28, (1 << 32) - 24, 1 << 31, BUFFER)
+    sizes = (1, 2, 3, 254, LAST, LAST - 3, (1 << 32) - 32, (1 << 32) - 28, (1 << 32) - 24, 1 << 31, IMAGES)
     for size in sizes:
         cases.image(build([256], puts=[(28, le(size))]), (25, 24))
         cases.image(build(sixteen, puts=[(last + 4, le(size))]), (25, last))
@@ -478,7 +440,7 @@ def add_pairs(cases):
 
 
 def add_large_images(cases):
-    cases.fill(0, BUFFER)
+    cases.fill()
     # the segments of source document 002, with other data
     lengths = [0x13CE0, 0, 0, 0x28E0, 0, 0x400, 0x9600, 0x62E4C, 0x6CEC, 0, 4, 0, 0]
     assert 24 + sum(8 + length for length in lengths) == 0x89B7C
@@ -487,13 +449,13 @@ def add_large_images(cases):
     cases.image(build(lengths, flag=1, wrong=0x80), (28, 0x89B7F))
     cases.image(build(lengths), (0, 564096))
     cases.image(build(lengths, puts=[(0x89B78, le(2))]), (25, 0x89B74))
-    whole = BUFFER - 24 - 8 - 4  # up to the buffer's last byte
-    cases.image(build([whole]), (0, BUFFER))
-    cases.image(build([whole], wrong=2), (28, BUFFER - 1))
-    cases.image(build([whole]), (27, BUFFER - 4), BUFFER - 1)
-    cases.image(build([whole], puts=[(28, le(whole + 4))]), (27, BUFFER))
+    whole = IMAGES - 24 - 8 - 4  # up to the buffer's last byte
+    cases.image(build([whole]), (0, IMAGES))
+    cases.image(build([whole], wrong=2), (28, IMAGES - 1))
+    cases.image(build([whole]), (27, IMAGES - 4), IMAGES - 1)
+    cases.image(build([whole], puts=[(28, le(whole + 4))]), (27, IMAGES))
     cases.image(build([whole], puts=[(28, le(whole + 8))]), (25, 24))
-    cases.fill(0, BUFFER)
+    cases.fill()
 
 
 def add_random_images(cases, rand):
@@ -513,33 +475,16 @@ def add_random_images(cases, rand):
         cases.image(build(lengths, flag=rand.randrange(2)), 0)
 
 
-def all_cases():
+def add_all(cases):
     rand = random.Random(20261116)
-    cases = Cases()
-    add_efuse(cases, rand)
+    layers = Layers(cases)
+    add_efuse(layers, rand)
     for add in (add_right_lists, add_wrong_lists, add_overlaps, add_list_ends):
-        add(cases)
-    add_random_lists(cases, rand)
-    add_parts(cases)
+        add(layers)
+    add_random_lists(layers, rand)
+    add_parts(layers)
     for add in (add_examples, add_header_faults, add_segment_faults, add_descriptor_faults, add_end_faults, add_pairs):
-        add(cases)
-    add_large_images(cases)
-    add_random_images(cases, rand)
-    assert cases.met == {0, *range(20, 30)}
-    assert len(cases.stdin) == 128 * (len(cases.stdin) // 128) < 300_000
-    return cases
-
-
-def main():
-    cases = all_cases()
-    made = {"stdin": bytes(cases.stdin), "stdout": ("\n".join(cases.stdout) + "\n").encode()}
-    for name, content in made.items():
-        if "--check" not in sys.argv:
-            (HERE / name).write_bytes(content)
-        elif (HERE / name).read_bytes() != content:
-            sys.exit(f"layer_vectors/{name} is not what tests/vectors/layers.py makes")
-    print(f"layer vectors: {len(cases.stdout)} answers to {len(cases.stdin) // 128} cases")
-
-
-if __name__ == "__main__":
-    main()
+        add(layers)
+    add_large_images(layers)
+    add_random_images(layers, rand)
+    assert layers.met == {0, *range(20, 30)}

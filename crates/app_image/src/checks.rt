@@ -23,9 +23,9 @@ use crate::layout::HEADER_SIZE;
 use crate::layout::padded;
 use crate::layout::walk;
 use crate::layout::whole_length;
-use crate::layout::word_at;
 use efuse::SecureVersion;
 use efuse::WIDTH;
+use otadata::word_at;
 use otadata::word_of;
 
 // The fewest bytes of an image: its header, a segment's header and the descriptor.

@@ -1,24 +1,15 @@
-// The layout of an image: its words, the walk over its segments, the checksum of their data, and its whole length.
+// The layout of an image: the walk over its segments, the checksum of their data, and its whole length.
 ghost use mathlib.Core.Path.{_≡_};
-ghost use Prim.Native.Nat.{_+_, _≤_, _<_, _^_};
+ghost use Prim.Native.Nat.{_≤_, _<_, _^_};
 ghost use mathlib.Core.Bool.{false};
 ghost use lib.ListN.{length};
-ghost use Rattle.otadata.specs.Words.{word};
 ghost use Rattle.app_image.specs.Layout.{headerSize, badSegment, dataEnd, segmentsFrom, walked, xored as Layout·xored, padded as Layout·padded, wholeLength};
 use crate::Walked;
-use otadata::word_of;
+use otadata::word_at;
 
 pub(crate) const HEADER_SIZE: usize = 24;
 
 const SEGMENT_HEADER_SIZE: usize = 8;
-
-// The word in the four bytes from `at`.
-pub(crate) fn word_at(image: &[u8], at: usize) -> u32
-    requires { ⌜ at + 4 ≤ length (now image) ⌝ }
-    ensures { λ r. ⌜ r ≡ word (now (image .entry)) at ⌝ }
-{
-    word_of(image[at], image[at + 1], image[at + 2], image[at + 3])
-}
 
 // Walks over that many segments.
 pub(crate) fn walk(image: &[u8], count: u8) -> Walked

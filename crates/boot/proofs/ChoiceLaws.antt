@@ -13,7 +13,7 @@ use Rattle.otadata.specs.declared.Verdict.the-variants.{None as NotGood, Good}
 use Rattle.otadata.specs.declared.Reading.{Reading}
 use Rattle.sectors.specs.declared.Holder.the-variants.{Sector}
 use Rattle.otadata.specs.Records.{usable, noReading}
-use Rattle.sectors.specs.Sectors.{ofUsable, active}
+use Rattle.sectors.specs.Sectors.{higherOf, active}
 use Rattle.partitions.specs.declared.App.the-variants.{Factory as FactoryApp, OtaSlot}
 use Rattle.partitions.specs.PartitionList.{slotCount, factorySubtype, timesListed}
 use Rattle.app_image.specs.declared.Facts.{Facts}
@@ -83,7 +83,7 @@ module _ (list flash : List ℕ) (settings : Settings) (rs : List Reading) where
   sector-sound : (k : ℕ) → k < 2 → Sounds (throughHolder list flash settings rs (Sector k))
   sector-sound k l = either-sound (record-sound k l) (record-sound (1 - k) (omega arith))
 
-  holder-sound : (first second higher : Bool) → Sounds (throughHolder list flash settings rs (ofUsable first second higher))
+  holder-sound : (first second higher : Bool) → Sounds (throughHolder list flash settings rs (higherOf first second higher))
   holder-sound false false higher = nothing
   holder-sound true false higher = sector-sound 0 (omega arith)
   holder-sound false true higher = sector-sound 1 (omega arith)

@@ -4,4 +4,3 @@ pub mod Marking
 pub mod Replies
 pub mod TestLaws
 pub mod ThroughRecords
-pub mod TwoSectors

@@ -24,12 +24,13 @@ use Rattle.boot.specs.declared.Reply.{Reply}
 use Rattle.boot.specs.declared.Reply.the-variants.{Starts}
 use Rattle.boot_choice.specs.Acceptance.{accepted}
 use Rattle.boot_choice.specs.Choice.{choice}
-use Rattle.boot.specs.Boot.{outcome, refused, readingsOf, marked, usedSector, awaiting, goodVerdict, anyGood, registerAfter, replyTo, fromMarks, byTests, boot, passedTests, Accepts}
+use Rattle.boot.specs.Boot.{outcome, refused, marked, usedSector, awaiting, goodVerdict, anyGood, registerAfter, replyTo, fromMarks, byTests, boot, passedTests, Accepts}
 use Rattle.otadata.proofs.Booleans.{true-is-not-false}
 use Rattle.boot.proofs.ChoiceLaws.{Sound, nothing, through, by-factory, found, choice-sound}
 use Rattle.boot.proofs.TestLaws.{tests-decide, where-accepted}
 use Rattle.boot_choice.proofs.Tries.{first-is-so, second-decides}
-use Rattle.boot.proofs.TwoSectors.{marked-size}
+use Rattle.boot.proofs.Marking.{marked-size}
+use Rattle.sectors.specs.Sectors.{readingsOf}
 
 -- ---- step 4
 

@@ -13,7 +13,7 @@ use Rattle.otadata.specs.declared.Verdict.the-variants.{None as NotGood, Good}
 use Rattle.otadata.specs.declared.Reading.{Reading}
 use Rattle.sectors.specs.declared.Holder.the-variants.{Sector}
 use Rattle.otadata.specs.Records.{usableState, usableVerdict, usable, noReading}
-use Rattle.sectors.specs.Sectors.{ofUsable, active}
+use Rattle.sectors.specs.Sectors.{higherOf, active}
 use Rattle.otadata.proofs.Booleans.{true-is-not-false}
 use Rattle.partitions.specs.declared.App.the-variants.{OtaSlot}
 use Rattle.app_image.specs.declared.Facts.{Facts}
@@ -22,7 +22,7 @@ use Rattle.boot_choice.specs.declared.Passing.{Passing}
 use Rattle.boot_choice.specs.declared.Passing.the-variants.{No, Yes}
 use Rattle.boot_choice.specs.declared.Choice.the-variants.{Nothing, Through}
 use Rattle.boot_choice.specs.Choice.{passing, passed, namedSlot, throughRecord, throughRecords, choice}
-use Rattle.boot.proofs.TwoSectors.{two}
+use Rattle.sectors.proofs.TwoSectors.{two}
 
 -- sector k holds a usable record of sequence q
 pub record UsableOf (rs : List Reading) (k : ℕ) (q : Sequence) : Type 0 where
@@ -32,12 +32,12 @@ pub record UsableOf (rs : List Reading) (k : ℕ) (q : Sequence) : Type 0 where
 
 -- ---- the active record
 
-of-first : (second higher : Bool) → (ofUsable true second higher ≡ Sector 0) ⊎ ((ofUsable true second higher ≡ Sector 1) × (second ≡ true))
+of-first : (second higher : Bool) → (higherOf true second higher ≡ Sector 0) ⊎ ((higherOf true second higher ≡ Sector 1) × (second ≡ true))
 of-first false higher = inl refl
 of-first true true = inr (refl, refl)
 of-first true false = inl refl
 
-of-second : (first higher : Bool) → (ofUsable first true higher ≡ Sector 1) ⊎ ((ofUsable first true higher ≡ Sector 0) × (first ≡ true))
+of-second : (first higher : Bool) → (higherOf first true higher ≡ Sector 1) ⊎ ((higherOf first true higher ≡ Sector 0) × (first ≡ true))
 of-second false higher = inl refl
 of-second true true = inl refl
 of-second true false = inr (refl, refl)

@@ -1,20 +1,18 @@
 -- The boot call: its four steps (step 2, the choice, is in Choice.antt), what it replies, and what it leaves of otadata.
-use Prim.Native.Nat.{ℕ, _*_}
+use Prim.Native.Nat.{ℕ}
 use mathlib.Core.Path.{_≡_}
 use mathlib.Core.Bool.{Bool, true, false, cond, not, _&&_}
 use mathlib.Core.List.{List, [], _∷_, _++_}
-use lib.Dec.{eqb}
-use lib.ListN.{length, take, drop}
+use lib.ListN.{length}
 use Rattle.otadata.specs.Answers.{Answer}
-use Rattle.otadata.specs.declared.State.{State}
 use Rattle.otadata.specs.declared.State.the-variants.{New, Pending, Aborted}
 use Rattle.otadata.specs.declared.Verdict.{Verdict}
 use Rattle.otadata.specs.declared.Verdict.the-variants.{None as NotGood, Good}
 use Rattle.otadata.specs.declared.Reading.{Reading}
 use Rattle.sectors.specs.declared.Holder.{Holder}
 use Rattle.sectors.specs.declared.Holder.the-variants.{None, Sector}
-use Rattle.otadata.specs.Records.{stateWord}
-use Rattle.sectors.specs.Sectors.{sectorReading, readings, restated}
+use Rattle.otadata.specs.Records.{inState}
+use Rattle.sectors.specs.Sectors.{sectorReading, sectorAt, readingsOf, withState}
 use Rattle.efuse.specs.Register.{width, raised}
 use Rattle.partitions.specs.declared.App.{App}
 use Rattle.partitions.specs.declared.App.the-variants.{Factory as FactoryApp, OtaSlot}
@@ -57,29 +55,7 @@ outcome r o = record { reply = r; otadata = o }
 abbrev pub refused : Settings → ℕ → Reply
 refused settings number = Refused (record { number = number; register = settings .efuse })
 
--- ---- the two sectors of otadata
-
-abbrev pub sectorAt : ℕ → List ℕ → List ℕ
-sectorAt k o = take 4096 (drop (k * 4096) o)
-
--- otadata with other bytes in sector k
-abbrev pub withSector : ℕ → List ℕ → List ℕ → List ℕ
-withSector k s o = take (k * 4096) o ++ (s ++ drop 4096 (drop (k * 4096) o))
-
--- what both sectors read as
-abbrev pub readingsOf : List ℕ → List Reading
-readingsOf o = readings (sectorAt 0 o) (sectorAt 1 o)
-
--- the record of sector k in another state, by a whole rewrite of that sector
-unfoldable pub withState : State → ℕ → List ℕ → List ℕ
-withState state k o = withSector k (restated state (sectorAt k o)) o
-
 -- ---- step 1
-
--- a good record in that state
-abbrev pub inState : State → Verdict → Bool
-inState state NotGood = false
-inState state (Good q s) = eqb (stateWord s) (stateWord state)
 
 -- with rollback on, a good pending record in sector k is rewritten as aborted
 unfoldable pub markedAt : Settings → ℕ → List ℕ → List ℕ

@@ -1,25 +1,24 @@
-// The state changes of boot: the aborted marks of step 1 and the pending mark of step 3. Otadata is written here only, through `restate`.
+// The state changes of boot: the aborted marks of step 1 and the pending mark of step 3. Boot writes otadata here only, through `restate_at`.
 ghost use mathlib.Core.Path.{_≡_};
 ghost use Prim.Native.Nat.{ℕ, _<_};
 ghost use lib.ListN.{length};
 ghost use Rattle.sectors.specs.declared.Holder.the-variants.{Sector};
-ghost use Rattle.sectors.specs.Sectors.{sectorReading};
-ghost use Rattle.boot.specs.Boot.{sectorAt, readingsOf, withState, inState, markedAt, marked, awaiting};
+ghost use Rattle.sectors.specs.Sectors.{readingsOf};
+ghost use Rattle.boot.specs.Boot.{markedAt, marked, awaiting};
 use boot_choice::Settings;
 use otadata::Reading;
 use otadata::State;
-use otadata::Verdict;
+use otadata::in_state;
 use sectors::Holder;
-use sectors::SECTOR_SIZE;
-use sectors::read_sector;
-use sectors::restate;
+use sectors::read_both;
+use sectors::restate_at;
 
 // Step 1: with rollback on, each good pending record becomes aborted, sector 0 first. Gives what both sectors then read as.
 pub(crate) fn mark_aborted(otadata: &mut [u8], settings: Settings) -> [Reading; 2]
     requires { ⌜ length (now otadata) ≡ 8192 ⌝ }
     ensures { λ r. ⌜ (now (otadata .exit) ≡ marked settings (now (otadata .entry))) × (r ≡ readingsOf (now (otadata .exit))) ⌝ }
 {
-    let lent = [read_at(otadata, 0), read_at(otadata, 1)];
+    let lent = read_both(otadata);
     let first = mark_sector(otadata, lent, settings, 0);
     mark_sector(otadata, first, settings, 1)
 }
@@ -40,7 +39,9 @@ fn mark_sector(
     if !in_state(readings[k], State::Pending) {
         return readings;
     }
-    restate_at(otadata, readings, k, State::Aborted)
+    let mut left = readings;
+    left[k] = restate_at(otadata, k, State::Aborted);
+    left
 }
 
 // Step 3: with rollback on, a record in state new that the choice came through becomes pending.
@@ -62,36 +63,5 @@ pub(crate) fn mark_pending(
     if !in_state(readings[k], State::New) {
         return;
     }
-    restate_at(otadata, readings, k, State::Pending);
-}
-
-// Whether the record is good and in that state.
-fn in_state(reading: Reading, state: State) -> bool
-    ensures { λ r. ⌜ r ≡ inState state (reading .verdict) ⌝ }
-{
-    let verdict = reading.verdict;
-    match verdict {
-        Verdict::None => false,
-        Verdict::Good(_, its) => its.word() == state.word(),
-    }
-}
-
-// What sector k reads as.
-fn read_at(otadata: &[u8], k: usize) -> Reading
-    requires { ⌜ (k < 2) × (length (now otadata) ≡ 8192) ⌝ }
-    ensures { λ r. ⌜ r ≡ sectorReading (sectorAt k (now (otadata .entry))) ⌝ }
-{
-    let at = k * SECTOR_SIZE;
-    read_sector(&otadata[at..at + SECTOR_SIZE])
-}
-
-// Gives the record of sector k another state, and the two readings with that one replaced.
-fn restate_at(otadata: &mut [u8], readings: [Reading; 2], k: usize, state: State) -> [Reading; 2]
-    requires { ⌜ (k < 2) × (length (now otadata) ≡ 8192) × (readings ≡ readingsOf (now otadata)) ⌝ }
-    ensures { λ r. ⌜ (now (otadata .exit) ≡ withState state k (now (otadata .entry))) × (r ≡ readingsOf (now (otadata .exit))) ⌝ }
-{
-    let at = k * SECTOR_SIZE;
-    let mut left = readings;
-    left[k] = restate(&mut otadata[at..at + SECTOR_SIZE], state);
-    left
+    restate_at(otadata, k, State::Pending);
 }

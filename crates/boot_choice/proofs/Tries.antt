@@ -8,6 +8,7 @@ use native.Mathlib.Omega.{arith}
 use lib.Dec.{eqb, ltb}
 use lib.ListN.{length, getD}
 use borrow.Author.Tests.{not-true, not-false}
+use denote.Ref.{RefT, now}
 use Rattle.otadata.specs.declared.Slot.{Slot}
 use Rattle.otadata.specs.declared.Sequence.{Sequence}
 use Rattle.otadata.specs.declared.State.{State}
@@ -17,7 +18,7 @@ use Rattle.otadata.specs.declared.Reading.{Reading}
 use Rattle.sectors.specs.declared.Holder.{Holder}
 use Rattle.sectors.specs.declared.Holder.the-variants.{None, Sector}
 use Rattle.otadata.specs.Records.{usableState, usableVerdict, usable, namesSlot, noReading}
-use Rattle.sectors.specs.Sectors.{active, Part}
+use Rattle.sectors.specs.Sectors.{active, Part, part}
 use Rattle.sectors.proofs.Activity.{default, active-below-two}
 use Rattle.efuse.specs.Register.{width, version}
 use Rattle.partitions.specs.declared.App.{App}
@@ -61,21 +62,22 @@ same-image list flash app =
     (entryAt list (entryOf list (subtypeOf app)))
     flash
 
-module _ (list : List ℕ) (flash : Part) (settings : Settings) (app : App) (handed : Part) (by-list : handed ≡ appPart list flash app)
-    (c : Checked) (found : c ≡ check (handed .content) (settings .chip)) where
-  pub checked-image : check (image list (flash .content) app) (settings .chip) ≡ c
-  checked-image = sym (found ∙ ap (λ (p : Part). check (p .content) (settings .chip)) by-list ∙ ap (λ (s : List ℕ). check s (settings .chip)) (same-image list flash app))
+module _ (list : List ℕ) (flash : RefT (List ℕ)) (settings : Settings) (app : App)
+    (handed : RefT (List ℕ)) (by-list : part handed ≡ appPart list (part flash) app) (c : Checked) (found : c ≡ check (now handed) (settings .chip)) where
+  pub checked-image : check (image list (now flash) app) (settings .chip) ≡ c
+  checked-image =
+      sym (found ∙ ap (λ (p : Part). check (p .content) (settings .chip)) by-list ∙ ap (λ (s : List ℕ). check s (settings .chip)) (same-image list (part flash) app))
 
-  pub image-refused : (refusal : Refusal) → c ≡ Refused refusal → No ≡ passing list (flash .content) settings app
+  pub image-refused : (refusal : Refusal) → c ≡ Refused refusal → No ≡ passing list (now flash) settings app
   unfolding passing
   image-refused refusal e = simp (checked-image, e)
 
   module _ (facts : Facts) (e : c ≡ Accepted facts) (t : Bool) (tested : t ≡ tooOld settings (facts .version .0)) where
-    pub version-too-old : t ≡ true → No ≡ passing list (flash .content) settings app
+    pub version-too-old : t ≡ true → No ≡ passing list (now flash) settings app
     unfolding passing
     version-too-old y = simp (checked-image, e, ← tested, y)
 
-    pub app-passes : t ≡ false → Yes facts ≡ passing list (flash .content) settings app
+    pub app-passes : t ≡ false → Yes facts ≡ passing list (now flash) settings app
     unfolding passing
     app-passes n = simp (checked-image, e, ← tested, n)
 

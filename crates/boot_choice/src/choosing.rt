@@ -65,7 +65,7 @@ pub fn choose(list: &[u32], flash: &[u8], settings: Settings, readings: [Reading
 }
 
 // Whether something is chosen.
-fn chosen(choice: Choice) -> bool
+pub fn chosen(choice: Choice) -> bool
     ensures { λ r. ⌜ r ≡ Choice·chosen choice ⌝ }
 {
     match choice {

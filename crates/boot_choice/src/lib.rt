@@ -6,6 +6,7 @@ pub use acceptance::accept;
 pub use acceptance::accept_node;
 use app_image::Facts;
 pub use choosing::choose;
+pub use choosing::chosen;
 pub use choosing::passes;
 pub use choosing::too_old;
 use otadata::Slot;

@@ -16,15 +16,16 @@ use Rattle.otadata.specs.declared.Verdict.the-variants.{None as NotGood, Good}
 use Rattle.otadata.specs.declared.Reading.{Reading}
 use Rattle.sectors.specs.declared.Holder.{Holder}
 use Rattle.sectors.specs.declared.Holder.the-variants.{None, Sector}
-use Rattle.otadata.specs.Records.{stateOf}
-use Rattle.sectors.specs.Sectors.{sectorReading}
+use Rattle.otadata.specs.Records.{stateOf, inState}
+use Rattle.sectors.specs.Sectors.{sectorReading, sectorAt, withState}
 use Rattle.otadata.proofs.Booleans.{true-is-not-false, both}
 use Rattle.sectors.proofs.Restating.{state-of-word}
 use Rattle.boot_choice.specs.declared.Settings.{Settings}
 use Rattle.boot_choice.specs.declared.Choice.{Choice}
-use Rattle.boot.specs.Boot.{sectorAt, withState, inState, markedAt, marked, usedSector, awaiting}
+use Rattle.boot.specs.Boot.{markedAt, marked, usedSector, awaiting}
 use Rattle.boot.proofs.ChoiceLaws.{Sound, nothing, through, by-factory, found}
-use Rattle.boot.proofs.TwoSectors.{two, with-state-reading, tested-size, tested-other, marked-at-size}
+use Rattle.boot.proofs.Marking.{marked-at-size}
+use Rattle.sectors.proofs.TwoSectors.{two, with-state-reading, tested-size, tested-other}
 
 -- with rollback on, t is a sector with the record of s changed from one state to the other
 pub record Restates (settings : Settings) (old now : State) (s t : List ℕ) : Type 0 where

@@ -13,7 +13,7 @@ use Rattle.otadata.specs.declared.State.the-variants.{New, Pending, Aborted}
 use Rattle.otadata.specs.declared.Reading.{Reading}
 use Rattle.sectors.specs.declared.Holder.the-variants.{None, Sector}
 use Rattle.otadata.specs.Records.{usable, usableVerdict, noReading}
-use Rattle.sectors.specs.Sectors.{sectorReading}
+use Rattle.sectors.specs.Sectors.{sectorReading, readingsOf}
 use Rattle.otadata.proofs.Booleans.{true-is-not-false}
 use Rattle.partitions.specs.declared.App.{App}
 use Rattle.partitions.specs.declared.Checked.{Checked}
@@ -27,13 +27,14 @@ use Rattle.boot.specs.declared.Start.{Start}
 use Rattle.boot.specs.declared.Refusal.{Refusal}
 use Rattle.boot.specs.declared.Reply.the-variants.{Refused, Starts}
 use Rattle.boot_choice.specs.Choice.{image, passing, choice}
-use Rattle.boot.specs.Boot.{Outcome, outcome, readingsOf, marked, usedSector, awaiting, replyTo, fromMarks, byTests, refused, boot, passedTests, Accepts}
+use Rattle.boot.specs.Boot.{Outcome, outcome, marked, usedSector, awaiting, replyTo, fromMarks, byTests, refused, boot, passedTests, Accepts}
 use Rattle.boot_laws.specs.Laws.{UsableAt, ThroughUsable, NotBelow, StartsNotBelow, Never, NeverLaw, AcceptanceLaw, RefusalKeeps, RefusalLaw, Change, OtherState, OnlyStates, StateLaw}
 use Rattle.boot.proofs.ChoiceLaws.{held-by, Sound, nothing, through, by-factory, found, choice-sound}
 use Rattle.boot_laws.proofs.Changes.{Restates, KeptOr, marks, no-marks, awaits, awaiting-size, no-awaiting}
 use Rattle.boot.proofs.Replies.{afterMarks, replies}
 use Rattle.boot.proofs.TestLaws.{OneToThree, Tested, fails, passes, tests-decide}
-use Rattle.boot.proofs.TwoSectors.{readings-at, marked-size}
+use Rattle.boot.proofs.Marking.{marked-size}
+use Rattle.sectors.proofs.TwoSectors.{readings-at}
 
 -- ---- an app that passes
 

@@ -14,7 +14,7 @@ use Rattle.otadata.specs.declared.Verdict.the-variants.{Good}
 use Rattle.otadata.specs.declared.Reading.{Reading}
 use Rattle.sectors.specs.declared.Holder.the-variants.{Sector}
 use Rattle.otadata.specs.Records.{noReading}
-use Rattle.sectors.specs.Sectors.{sectorReading, active}
+use Rattle.sectors.specs.Sectors.{sectorReading, active, sectorAt}
 use Rattle.sectors.specs.PowerCut.{after, ReadingLaw}
 use Rattle.otadata.proofs.Booleans.{true-is-not-false}
 use Rattle.sectors.proofs.ReadingLaw.{reading-law, after-size}
@@ -27,14 +27,14 @@ use Rattle.boot_choice.specs.declared.Choice.the-variants.{Through}
 use Rattle.boot.specs.declared.Start.{Start}
 use Rattle.boot.specs.declared.Reply.the-variants.{Starts}
 use Rattle.boot_choice.specs.Choice.{passing, passed, namedSlot, choice}
-use Rattle.boot.specs.Boot.{sectorAt, marked, registerAfter, replyTo, boot, Accepts}
+use Rattle.boot.specs.Boot.{marked, registerAfter, replyTo, boot, Accepts}
 use Rattle.boot_laws.specs.Laws.{NeverLaw}
 use Rattle.boot_laws.specs.PowerCut.{otadataOf, Untouched, Prevails, StartsRecord, Demand3}
 use Rattle.boot_laws.proofs.Changes.{Restates, marks}
 use Rattle.boot_laws.proofs.Laws.{same-start, same-sector, never-law}
 use Rattle.boot.proofs.Replies.{afterMarks, replies}
 use Rattle.boot.proofs.ThroughRecords.{UsableOf, active-or, passed-facts, through-active, through-other}
-use Rattle.boot.proofs.TwoSectors.{two, readings-at}
+use Rattle.sectors.proofs.TwoSectors.{two, readings-at}
 
 -- ---- the two sectors side by side
 

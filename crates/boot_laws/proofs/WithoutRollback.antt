@@ -11,14 +11,14 @@ use Rattle.otadata.specs.declared.Verdict.the-variants.{None as NotGood, Good}
 use Rattle.otadata.specs.declared.Reading.{Reading}
 use Rattle.sectors.specs.declared.Holder.{Holder}
 use Rattle.sectors.specs.declared.Holder.the-variants.{None, Sector}
-use Rattle.otadata.specs.Records.{usableState, usableVerdict, noReading}
-use Rattle.sectors.specs.Sectors.{sequenceIn, active}
+use Rattle.otadata.specs.Records.{usableState, usableVerdict, noReading, sequenceIn}
+use Rattle.sectors.specs.Sectors.{active, readingsOf}
 use Rattle.partitions.specs.PartitionList.{slotCount}
 use Rattle.boot_choice.specs.declared.Settings.{Settings}
 use Rattle.boot_choice.specs.declared.Choice.{Choice}
 use Rattle.boot_choice.specs.declared.Choice.the-variants.{Nothing, Through, Factory, Found}
 use Rattle.boot_choice.specs.Choice.{orElse, throughVerdict, throughRecord, throughHolder, throughRecords, verdictBars, barred, candidate, searchFrom, choice}
-use Rattle.boot.specs.Boot.{readingsOf, goodVerdict, anyGood, registerAfter, replyTo}
+use Rattle.boot.specs.Boot.{goodVerdict, anyGood, registerAfter, replyTo}
 use Rattle.boot_laws.specs.Laws.{countedState, countedVerdict, counted, WithoutRollback}
 use Rattle.boot_laws.proofs.Changes.{no-marks}
 use Rattle.boot.proofs.Replies.{replies}

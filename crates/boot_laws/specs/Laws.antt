@@ -13,7 +13,7 @@ use Rattle.otadata.specs.declared.Verdict.the-variants.{None as NotGood, Good}
 use Rattle.otadata.specs.declared.Reading.{Reading}
 use Rattle.sectors.specs.declared.Holder.the-variants.{Sector}
 use Rattle.otadata.specs.Records.{usable}
-use Rattle.sectors.specs.Sectors.{sectorReading}
+use Rattle.sectors.specs.Sectors.{sectorReading, sectorAt, readingsOf}
 use Rattle.efuse.specs.Register.{width, version}
 use Rattle.partitions.specs.declared.App.{App}
 use Rattle.app_image.specs.declared.Facts.{Facts}
@@ -25,7 +25,7 @@ use Rattle.boot.specs.declared.Start.{Start}
 use Rattle.boot.specs.declared.Reply.{Reply}
 use Rattle.boot.specs.declared.Reply.the-variants.{Refused, Starts}
 use Rattle.boot_choice.specs.Choice.{image, choice}
-use Rattle.boot.specs.Boot.{Outcome, sectorAt, readingsOf, marked, replyTo, boot, Accepts}
+use Rattle.boot.specs.Boot.{Outcome, marked, replyTo, boot, Accepts}
 
 -- ---- which app is started
 

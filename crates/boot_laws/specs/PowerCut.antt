@@ -12,7 +12,7 @@ use Rattle.otadata.specs.declared.State.the-variants.{Pending}
 use Rattle.otadata.specs.declared.Verdict.the-variants.{Good}
 use Rattle.sectors.specs.declared.Holder.the-variants.{Sector}
 use Rattle.otadata.specs.Records.{usableState}
-use Rattle.sectors.specs.Sectors.{readsAs, sectorReading, active}
+use Rattle.sectors.specs.Sectors.{readsAs, sectorReading, active, sectorAt, readingsOf}
 use Rattle.sectors.specs.PowerCut.{Call, after, History}
 use Rattle.partitions.specs.declared.App.the-variants.{OtaSlot}
 use Rattle.boot_choice.specs.declared.Settings.{Settings}
@@ -21,7 +21,7 @@ use Rattle.boot.specs.declared.Reply.{Reply}
 use Rattle.boot.specs.declared.Reply.the-variants.{Starts}
 use Rattle.boot_choice.specs.Acceptance.{otadataSize}
 use Rattle.boot_choice.specs.Choice.{namedSlot, Passes}
-use Rattle.boot.specs.Boot.{sectorAt, readingsOf, marked, boot, Accepts}
+use Rattle.boot.specs.Boot.{marked, boot, Accepts}
 use Rattle.boot_laws.specs.Laws.{Never}
 
 -- otadata with these bytes in sector p, 0 or 1, and those in the other one

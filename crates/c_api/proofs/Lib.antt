@@ -1,2 +1,3 @@
+pub mod Answers
 pub mod Replies
 pub mod Starts

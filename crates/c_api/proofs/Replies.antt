@@ -22,8 +22,7 @@ use Rattle.update.specs.Replies.{queryView, nextView, outcome as Update·outcom
 use Rattle.update.specs.SetBoot.{setBoot}
 use Rattle.update.specs.Marks.{markValid, markInvalid}
 use Rattle.update.specs.Queries.{stateQuery, nextSlot}
-use Rattle.c_parts.specs.Interface.{answer, toC}
-use Rattle.c_api.specs.Interface.{slotOf, runningApp, outcome, ofSetBoot, ofMarkValid, ofMarkInvalid}
+use Rattle.c_api.specs.Interface.{answer, toC, slotOf, runningApp, outcome, ofSetBoot, ofMarkValid, ofMarkInvalid}
 
 -- ---- set-boot and the marks, with the settings that the arguments stand for
 

@@ -17,13 +17,13 @@ use Rattle.boot_choice.specs.declared.Choice.the-variants.{Nothing, Through, Fa
 use Rattle.boot_choice.specs.Acceptance.{accepted}
 use Rattle.boot_choice.specs.Choice.{choice}
 use Rattle.boot.specs.declared.Refusal.{Refusal}
+use Rattle.sectors.specs.Sectors.{readingsOf}
 use Rattle.boot.specs.declared.Start.{Start}
 use Rattle.boot.specs.declared.Reply.{Reply}
 use Rattle.boot.specs.declared.Reply.the-variants.{Refused, Starts}
-use Rattle.boot.specs.Boot.{appValues, sectorValue, readingsOf, marked, usedSector, replyTo, fromMarks, byTests, boot, Outcome as Boot·Outcome, outcome as Boot·outcome}
+use Rattle.boot.specs.Boot.{appValues, sectorValue, marked, usedSector, replyTo, fromMarks, byTests, boot, Outcome as Boot·Outcome, outcome as Boot·outcome}
 use Rattle.boot.proofs.Replies.{one-of-two}
-use Rattle.c_parts.specs.Interface.{answer}
-use Rattle.c_api.specs.Interface.{outcome, ofBoot}
+use Rattle.c_api.specs.Interface.{answer, outcome, ofBoot}
 
 -- ---- the sector of a start
 

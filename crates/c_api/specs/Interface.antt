@@ -1,17 +1,45 @@
--- What C gets of the calls on a node, and what their arguments stand for.
-use Prim.Native.Nat.{ℕ}
+-- What C gets: an answer as a number and the array `out`; and what the arguments and outcomes of the calls on a node stand for.
+use Prim.Native.Nat.{ℕ, _-_}
 use mathlib.Core.Bool.{Bool, cond, not}
-use mathlib.Core.List.{List, []}
+use mathlib.Core.List.{List, [], _∷_, _++_}
 use lib.Dec.{eqb}
-use lib.ListN.{drop}
+use lib.ListN.{length, replicate, drop}
 use Rattle.otadata.specs.Answers.{Answer}
+use Rattle.otadata.specs.declared.Made.{Made}
 use Rattle.otadata.specs.declared.Slot.{Slot}
+use Rattle.otadata.specs.declared.Verdict.{Verdict}
+use Rattle.otadata.specs.declared.Verdict.the-variants.{None, Good}
+use Rattle.otadata.specs.Records.{stateWord}
 use Rattle.partitions.specs.declared.App.{App}
 use Rattle.partitions.specs.declared.App.the-variants.{Factory, OtaSlot}
 use Rattle.boot_choice.specs.declared.Settings.{Settings}
 use Rattle.boot.specs.Boot.{Outcome as Boot·Outcome, view as Boot·view}
 use Rattle.update.specs.Replies.{Outcome as Update·Outcome, view as Update·view}
-use Rattle.c_parts.specs.Interface.{answer}
+
+-- ---- an answer
+
+-- the number that a call returns, and what it leaves in `out`
+abbrev pub answer : ℕ → List ℕ → Answer
+answer number values = record { number = number; values = values }
+
+-- an answer with an `out` of k numbers: its values, zero after them
+abbrev pub toC : ℕ → Answer → Answer
+toC k a = answer (a .number) (a .values ++ replicate (k - length (a .values)) 0)
+
+-- a record as made: 0 and its bytes, or 17 and zero bytes
+abbrev pub madeView : Made → Answer
+madeView m = answer (m .number) (m .rec)
+
+-- a record as read: 1, its sequence and its state word; none is 0
+abbrev pub readView : Verdict → Answer
+readView None = answer 0 []
+readView (Good q s) = answer 1 (q .0 ∷ stateWord s ∷ [])
+
+-- the active record: 32 and its bytes; where there is none, 0, and what was there before
+abbrev pub activeView : List ℕ → List ℕ → Answer
+activeView rec before = cond (eqb (length rec) 32) (answer 32 rec) (answer 0 before)
+
+-- ---- the settings and the outcomes of a node
 
 -- a flag is on where it is not 0
 abbrev pub flag : ℕ → Bool

@@ -1,12 +1,12 @@
--- Laws of a record's fields: the bytes of the fields put together, and the fields of the bytes.
+-- Laws of words and of a record's fields: the bytes of the fields put together, and the fields of the bytes.
 -- Assumes nothing.
 use Prim.Native.Nat.{ℕ, _+_, _-_, _<_, _≤_}
 use mathlib.Core.Path.{_≡_, _∙_, refl, ap}
 use mathlib.Core.List.{List, [], _++_, append-assoc}
 use native.Mathlib.Omega.{arith}
-use lib.ListN.{length, getD, drop, length-take, length-drop, length-append, List·getD-append}
+use lib.ListN.{length, getD, drop, length-take, length-drop, length-append, List·getD-append, List·getD-eq-default}
 use lib.Seq.{getD-take, getD-drop, getD-append-add}
-use Rattle.otadata.specs.Words.{byteOf, bytesOf, checkWord}
+use Rattle.otadata.specs.Words.{word, byteOf, bytesOf, checkWord}
 use Rattle.otadata.specs.Records.{labelField, recordOf}
 use Rattle.otadata.proofs.Numbers.{below-four}
 
@@ -19,6 +19,12 @@ past : (xs ys : List ℕ) (k i : ℕ) → length xs ≡ k → k ≤ i → getD (
 past xs ys k i e l =
     let at : i ≡ length xs + (i - k) = omega arith in
     ap (λ (j : ℕ). getD (xs ++ ys) j 0) at ∙ getD-append-add xs ys (i - k) 0
+
+-- from the end on every byte counts as 0
+pub no-word : (s : List ℕ) (at : ℕ) → length s ≤ at → 0 ≡ word s at
+no-word s at l =
+    let zero-from : (i : ℕ) → at ≤ i → getD s i 0 ≡ 0 = λ (i : ℕ) (h : at ≤ i). List·getD-eq-default s 0 (omega arith) in
+    omega (arith, zero-from at (omega arith), zero-from (at + 1) (omega arith), zero-from (at + 2) (omega arith), zero-from (at + 3) (omega arith))
 
 -- ---- the bytes of the fields
 

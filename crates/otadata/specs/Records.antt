@@ -90,6 +90,16 @@ usableVerdict (Good q s) = usableState s
 abbrev pub usable : Reading → Bool
 usable r = usableVerdict (r .verdict)
 
+-- a good record in that state
+abbrev pub inState : State → Verdict → Bool
+inState state None = false
+inState state (Good q its) = eqb (stateWord its) (stateWord state)
+
+-- the sequence of a good record, and 0 of none
+abbrev pub sequenceIn : Verdict → ℕ
+sequenceIn None = 0
+sequenceIn (Good q s) = q .0
+
 -- document 01's term *names slot*: with n slots, a good record of sequence q names slot (q - 1) mod n. Of no slots: 0
 unfoldable pub namesSlot : ℕ → ℕ → ℕ
 namesSlot n q = cond (eqb n 0) 0 ((q - 1) % n)

@@ -3,10 +3,13 @@ mod records;
 mod words;
 
 pub use records::fields;
+pub use records::in_state;
 pub use records::make;
 pub use records::read;
+pub use records::sequence_of;
 pub use records::usable;
 pub use words::check_word;
+pub use words::word_at;
 pub use words::word_of;
 
 // The size of a record in bytes.

@@ -1,10 +1,10 @@
 // A record: when it is good, what it reads as, and how one is made.
 ghost use mathlib.Core.Path.{_≡_};
-ghost use Prim.Native.Nat.{_+_, _<_};
+ghost use Prim.Native.Nat.{_<_};
 ghost use lib.ListN.{length, getD};
 ghost use Rattle.otadata.specs.Words.{checkWord};
 ghost use Rattle.otadata.specs.Records.{stateWord, isState, stateOf, isSequence, labelField, noReading, reading, usable as Records·usable, recordOf, made};
-ghost use Rattle.otadata.specs.Records.{good as Records·good, namesSlot};
+ghost use Rattle.otadata.specs.Records.{good as Records·good, inState, sequenceIn, namesSlot};
 use crate::DONE;
 use crate::LAST_SEQUENCE;
 use crate::Made;
@@ -151,6 +151,28 @@ pub fn usable(reading: Reading) -> bool
             State::Valid => true,
             State::Undefined => true,
         },
+    }
+}
+
+// Whether the record is good and in that state.
+pub fn in_state(reading: Reading, state: State) -> bool
+    ensures { λ r. ⌜ r ≡ inState state (reading .verdict) ⌝ }
+{
+    let verdict = reading.verdict;
+    match verdict {
+        Verdict::None => false,
+        Verdict::Good(_, its) => its.word() == state.word(),
+    }
+}
+
+// The sequence of a good record, and 0 of none.
+pub fn sequence_of(reading: Reading) -> u32
+    ensures { λ r. ⌜ r ≡ sequenceIn (reading .verdict) ⌝ }
+{
+    let verdict = reading.verdict;
+    match verdict {
+        Verdict::None => 0,
+        Verdict::Good(sequence, _) => sequence.0,
     }
 }
 

@@ -1,7 +1,7 @@
 // Little-endian words, and the check word of a sequence.
 ghost use mathlib.Core.Path.{_≡_};
-ghost use Prim.Native.Nat.{_+_, _*_, _≤_, _<_};
-ghost use lib.ListN.{length};
+ghost use Prim.Native.Nat.{_+_, _*_, _<_};
+ghost use lib.ListN.{getD};
 ghost use Rattle.otadata.specs.Words.{word, byteOf, shift as Words·shift, checkWord};
 use crate::Sequence;
 
@@ -37,12 +37,26 @@ pub fn word_of(b0: u8, b1: u8, b2: u8, b3: u8) -> u32
     b0 as u32 + 256 * (b1 as u32) + 65536 * (b2 as u32) + 16777216 * (b3 as u32)
 }
 
-// The word in the four bytes from `at`.
-pub(crate) fn word_at(bytes: &[u8], at: usize) -> u32
-    requires { ⌜ at + 4 ≤ length (now bytes) ⌝ }
+// The word in the four bytes from `at`. A byte past the end counts as 0.
+pub fn word_at(bytes: &[u8], at: usize) -> u32
     ensures { λ r. ⌜ r ≡ word (now (bytes .entry)) at ⌝ }
 {
-    word_of(bytes[at], bytes[at + 1], bytes[at + 2], bytes[at + 3])
+    if at >= bytes.len() {
+        return 0;
+    }
+    word_of(
+        byte_at(bytes, at),
+        byte_at(bytes, at + 1),
+        byte_at(bytes, at + 2),
+        byte_at(bytes, at + 3),
+    )
+}
+
+// Byte i, or 0 past the end.
+fn byte_at(bytes: &[u8], i: usize) -> u8
+    ensures { λ r. ⌜ r ≡ getD (now (bytes .entry)) i 0 ⌝ }
+{
+    if i < bytes.len() { bytes[i] } else { 0 }
 }
 
 // Byte i of a word.

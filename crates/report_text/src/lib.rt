@@ -2,8 +2,7 @@
 mod buffer;
 
 ghost use mathlib.Core.Path.{_≡_};
-ghost use mathlib.Core.List.{_++_};
-ghost use Rattle.report_text.specs.Text.{textOf, content, Room};
+ghost use Rattle.report_text.specs.Text.{textOf, Puts};
 ghost use Rattle.report_text.specs.Report.{stateName, verdictText, sectorLine, activeLine, reportOf};
 use buffer::empty;
 use buffer::push_all;
@@ -32,11 +31,10 @@ pub fn report(readings: [Reading; 2]) -> Text
     active_line(two, holder)
 }
 
-// The functions below put one part of the report at the end of a text that has room for the longest that it can be.
+// The functions below put one part of the report at the end of a text.
 
 fn sector_line(text: Text, k: u64, reading: Reading) -> Text
-    requires { ⌜ Room text 69 ⌝ }
-    ensures { λ r. ⌜ r ≡ textOf (content text ++ sectorLine k reading) ⌝ }
+    ensures { λ r. ⌜ Puts text r (sectorLine k reading) ⌝ }
 {
     let verdict = reading.verdict;
     let number = push_decimal(push_all(text, b"sector "), k);
@@ -44,8 +42,7 @@ fn sector_line(text: Text, k: u64, reading: Reading) -> Text
 }
 
 fn push_verdict(text: Text, verdict: Verdict) -> Text
-    requires { ⌜ Room text 40 ⌝ }
-    ensures { λ r. ⌜ r ≡ textOf (content text ++ verdictText verdict) ⌝ }
+    ensures { λ r. ⌜ Puts text r (verdictText verdict) ⌝ }
 {
     match verdict {
         Verdict::None => push_all(text, b"none"),
@@ -57,8 +54,7 @@ fn push_verdict(text: Text, verdict: Verdict) -> Text
 }
 
 fn push_state(text: Text, state: State) -> Text
-    requires { ⌜ Room text 9 ⌝ }
-    ensures { λ r. ⌜ r ≡ textOf (content text ++ stateName state) ⌝ }
+    ensures { λ r. ⌜ Puts text r (stateName state) ⌝ }
 {
     match state {
         State::New => push_all(text, b"new"),
@@ -71,8 +67,7 @@ fn push_state(text: Text, state: State) -> Text
 }
 
 fn active_line(text: Text, holder: Holder) -> Text
-    requires { ⌜ Room text 28 ⌝ }
-    ensures { λ r. ⌜ r ≡ textOf (content text ++ activeLine holder) ⌝ }
+    ensures { λ r. ⌜ Puts text r (activeLine holder) ⌝ }
 {
     match holder {
         Holder::None => push_all(text, b"active none\n"),

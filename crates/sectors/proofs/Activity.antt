@@ -1,20 +1,20 @@
 -- Which record is active, as the tests of the code decide it.
 -- Assumes nothing.
-use Prim.Native.Nat.{ℕ, _<_, _≤_}
-use mathlib.Core.Path.{_≡_, _∙_, refl, sym}
+use Prim.Native.Nat.{ℕ, _<_}
+use mathlib.Core.Path.{_≡_, _∙_, refl}
 use mathlib.Core.Bool.{Bool, true, false, not}
 use mathlib.Core.List.{List, [], _∷_}
 use native.Mathlib.Nat.{not-suc-le-zero, le-of-suc-le-suc}
 use native.Mathlib.Omega.{arith}
 use lib.Dec.{ltb}
 use lib.ListN.{length, getD}
-use borrow.Author.Tests.{eq-eqb, ne-eqb, lt-ltb, le-ltb, not-true, not-false}
+use borrow.Author.Tests.{eq-eqb, ne-eqb, not-true, not-false}
 use Prim.Native.Nat.{zero, suc}
 use Rattle.otadata.specs.declared.Reading.{Reading}
 use Rattle.sectors.specs.declared.Holder.{Holder}
 use Rattle.sectors.specs.declared.Holder.the-variants.{None, Sector}
-use Rattle.otadata.specs.Records.{usable, noReading}
-use Rattle.sectors.specs.Sectors.{Part, recordPart, activePart, readings, sequenceIn, ofUsable, active}
+use Rattle.otadata.specs.Records.{usable, noReading, sequenceIn}
+use Rattle.sectors.specs.Sectors.{Part, recordPart, activePart, readings, higherOf, active}
 
 -- below the length, the default does not count
 pub default : (rs : List Reading) (k : ℕ) (d e : Reading) → k < length rs → getD rs k d ≡ getD rs k e
@@ -22,34 +22,38 @@ default [] k d e l = absurd (not-suc-le-zero l)
 default (r ∷ rs) zero d e l = refl
 default (r ∷ rs) (suc k) d e l = default rs k d e (le-of-suc-le-suc l)
 
-module _ (rs : List Reading) (size : length rs ≡ 2) (d : Reading) where
-  by-readings :
-      active rs ≡ ofUsable (usable (getD rs 0 d)) (usable (getD rs 1 d)) (ltb (sequenceIn (getD rs 0 d .verdict)) (sequenceIn (getD rs 1 d .verdict)))
-  unfolding active
-  by-readings = simp (default rs 0 noReading d (omega arith), default rs 1 noReading d (omega arith))
+-- ---- of the records that count, the higher
 
-  module _ (t0 : Bool) (tested0 : t0 ≡ usable (getD rs 0 d)) (t1 : Bool) (tested1 : t1 ≡ usable (getD rs 1 d)) where
-    pub neither-usable : not t0 ≡ true → t1 ≡ false → None ≡ active rs
-    neither-usable n0 n1 = sym (by-readings ∙ simp (← tested0, ← tested1, not-true t0 n0, n1))
+module _ (first second higher : Bool) (no : not second ≡ true) where
+  pub only-first : first ≡ true → Sector 0 ≡ higherOf first second higher
+  only-first y = simp (not-true second no, y)
 
-    pub second-usable : not t0 ≡ true → t1 ≡ true → Sector 1 ≡ active rs
-    second-usable n0 y1 = sym (by-readings ∙ simp (← tested0, ← tested1, not-true t0 n0, y1))
+  pub neither : first ≡ false → None ≡ higherOf first second higher
+  neither n = simp (not-true second no, n)
 
-    pub first-usable : not t0 ≡ false → not t1 ≡ true → Sector 0 ≡ active rs
-    first-usable y0 n1 = sym (by-readings ∙ simp (← tested0, ← tested1, not-false t0 y0, not-true t1 n1))
+module _ (first second higher : Bool) (yes : not second ≡ false) where
+  pub only-second : not first ≡ true → Sector 1 ≡ higherOf first second higher
+  only-second n = simp (not-false second yes, not-true first n)
 
-    module _ (y0 : not t0 ≡ false) (y1 : not t1 ≡ false)
-        (q0 : ℕ) (read0 : q0 ≡ sequenceIn (getD rs 0 d .verdict)) (q1 : ℕ) (read1 : q1 ≡ sequenceIn (getD rs 1 d .verdict)) where
-      pub second-higher : q0 < q1 → Sector 1 ≡ active rs
-      second-higher l =
-          sym (by-readings ∙ simp (← tested0, ← tested1, not-false t0 y0, not-false t1 y1, ← read0, ← read1, lt-ltb _ _ l))
+  module _ (too : not first ≡ false) where
+    pub second-higher : higher ≡ true → Sector 1 ≡ higherOf first second higher
+    second-higher y = simp (not-false second yes, not-false first too, y)
 
-      pub first-higher : q1 ≤ q0 → Sector 0 ≡ active rs
-      first-higher l =
-          sym (by-readings ∙ simp (← tested0, ← tested1, not-false t0 y0, not-false t1 y1, ← read0, ← read1, le-ltb _ _ l))
+    pub first-higher : higher ≡ false → Sector 0 ≡ higherOf first second higher
+    first-higher n = simp (not-false second yes, not-false first too, n)
+
+-- ---- the active one
+
+pub is-active : (rs : List Reading) → length rs ≡ 2 → (d : Reading)
+    → (a : ℕ) → a ≡ sequenceIn (getD rs 0 d .verdict) → (b : ℕ) → b ≡ sequenceIn (getD rs 1 d .verdict)
+    → (first : Bool) → first ≡ usable (getD rs 0 d) → (second : Bool) → second ≡ usable (getD rs 1 d)
+    → (h : Holder) → h ≡ higherOf first second (ltb a b) → h ≡ active rs
+unfolding active
+is-active rs size d a ea b eb first e0 second e1 h e =
+    e ∙ simp (e0, e1, ea, eb, default rs 0 d noReading (omega arith), default rs 1 d noReading (omega arith))
 
 -- there are two sectors
-pub by-usable : (first second higher : Bool) (k : ℕ) → ofUsable first second higher ≡ Sector k → k < 2
+pub by-usable : (first second higher : Bool) (k : ℕ) → higherOf first second higher ≡ Sector k → k < 2
 by-usable false false higher k e = absurd (let z : _≡_ {A = ℕ} 0 1 = cc in omega arith)
 by-usable true false higher k e = let z : 0 ≡ k = cc in omega arith
 by-usable false true higher k e = let z : 1 ≡ k = cc in omega arith

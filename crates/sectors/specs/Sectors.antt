@@ -1,18 +1,18 @@
 -- The two otadata sectors: what a sector reads as, which record is active, and how a sector is rewritten.
-use Prim.Native.Nat.{ℕ, zero, suc, _-_}
+use Prim.Native.Nat.{ℕ, zero, suc, _-_, _*_}
 use mathlib.Core.Path.{_≡_}
 use mathlib.Core.Bool.{Bool, true, false, cond, _&&_}
-use mathlib.Core.List.{List, [], _∷_}
+use mathlib.Core.List.{List, [], _∷_, _++_}
 use denote.Ref.{RefT}
 use lib.Dec.{eqb, ltb}
-use lib.ListN.{length, getD, set, take, replicate}
+use lib.ListN.{length, getD, set, take, drop, replicate}
 use Rattle.otadata.specs.declared.State.{State}
 use Rattle.otadata.specs.declared.Verdict.{Verdict}
 use Rattle.otadata.specs.declared.Verdict.the-variants.{None as NotGood, Good}
 use Rattle.otadata.specs.declared.Reading.{Reading}
 use Rattle.sectors.specs.declared.Holder.{Holder}
 use Rattle.sectors.specs.declared.Holder.the-variants.{None, Sector}
-use Rattle.otadata.specs.Records.{stateWord, good, usable, reading, noReading, recordOf}
+use Rattle.otadata.specs.Records.{stateWord, good, usable, sequenceIn, reading, noReading, recordOf}
 
 -- ---- reading
 
@@ -38,24 +38,23 @@ readings first second = sectorReading first ∷ sectorReading second ∷ []
 
 -- ---- the active record
 
--- the sequence of a good record, and 0 of none
-abbrev pub sequenceIn : Verdict → ℕ
-sequenceIn NotGood = 0
-sequenceIn (Good q s) = q .0
+-- of two records by which of them count, and whether the second has the higher sequence: the higher, sector 0 on a tie
+abbrev pub higherOf : Bool → Bool → Bool → Holder
+higherOf false false higher = None
+higherOf true false higher = Sector 0
+higherOf false true higher = Sector 1
+higherOf true true higher = cond higher (Sector 1) (Sector 0)
 
--- by which of the two is usable, and whether the second has the higher sequence
-abbrev pub ofUsable : Bool → Bool → Bool → Holder
-ofUsable false false higher = None
-ofUsable true false higher = Sector 0
-ofUsable false true higher = Sector 1
-ofUsable true true higher = cond higher (Sector 1) (Sector 0)
+-- the sector of the record of highest sequence among those that pass a test
+abbrev pub highestOf : (Reading → Bool) → List Reading → Holder
+highestOf test rs =
+    let first = getD rs 0 noReading in
+    let second = getD rs 1 noReading in
+    higherOf (test first) (test second) (ltb (sequenceIn (first .verdict)) (sequenceIn (second .verdict)))
 
 -- document 01's term *active*: the usable record with the higher sequence, sector 0 on a tie
 unfoldable pub active : List Reading → Holder
-active rs =
-    let first = getD rs 0 noReading in
-    let second = getD rs 1 noReading in
-    ofUsable (usable first) (usable second) (ltb (sequenceIn (first .verdict)) (sequenceIn (second .verdict)))
+active rs = highestOf usable rs
 
 -- a part of what was lent: where it begins, and its bytes
 pub record Part : Type 0 where
@@ -123,3 +122,29 @@ restatedVerdict (Good q old) label state s = rewrite s (recordOf (q .0) label (s
 -- a sector without a good record stays as it is
 unfoldable pub restated : State → List ℕ → List ℕ
 restated state s = restatedVerdict (sectorReading s .verdict) (sectorReading s .label) state s
+
+-- ---- the two sectors of otadata, by number
+
+-- sector k; where otadata ends before it does, the shorter rest, which is no sector
+abbrev pub sectorAt : ℕ → List ℕ → List ℕ
+sectorAt k o = take 4096 (drop (k * 4096) o)
+
+-- otadata with other bytes in sector k
+abbrev pub withSector : ℕ → List ℕ → List ℕ → List ℕ
+withSector k s o = take (k * 4096) o ++ (s ++ drop 4096 (drop (k * 4096) o))
+
+-- what both sectors read as
+abbrev pub readingsOf : List ℕ → List Reading
+readingsOf o = readings (sectorAt 0 o) (sectorAt 1 o)
+
+-- the record of sector k in another state, by a whole rewrite of that sector
+unfoldable pub withState : State → ℕ → List ℕ → List ℕ
+withState state k o = withSector k (restated state (sectorAt k o)) o
+
+-- otadata with that record in sector k, by a whole rewrite of that sector
+unfoldable pub withRecord : List ℕ → ℕ → List ℕ → List ℕ
+withRecord rec k o = withSector k (rewrite (sectorAt k o) rec .sector) o
+
+-- a whole rewrite of sector k: what it replies, and otadata as it leaves it
+unfoldable pub rewriteAt : ℕ → List ℕ → List ℕ → Reply
+rewriteAt k o rec = reply (rewrite (sectorAt k o) rec .number) (withRecord rec k o)

@@ -1,9 +1,15 @@
 // The two otadata sectors: what they read as, the active record, and how a sector is rewritten.
+mod lending;
 mod reading;
 mod rewriting;
 
+pub use lending::read_at;
+pub use lending::read_both;
+pub use lending::restate_at;
+pub use lending::rewrite_at;
 pub use reading::active;
 pub use reading::active_record;
+pub use reading::higher_of;
 pub use reading::read_sector;
 pub use reading::readings;
 pub use rewriting::restate;

@@ -1,13 +1,13 @@
 // Reading the two otadata sectors, and the active record.
 ghost use mathlib.Core.Path.{_≡_};
-ghost use Rattle.sectors.specs.Sectors.{sectorReading, readings as Sectors·readings, sequenceIn, active as Sectors·active};
+ghost use Rattle.sectors.specs.Sectors.{sectorReading, readings as Sectors·readings, higherOf, active as Sectors·active};
 ghost use Rattle.sectors.specs.Sectors.{part, recordPart, activePart};
 use crate::Holder;
 use crate::SECTOR_SIZE;
 use otadata::RECORD_SIZE;
 use otadata::Reading;
-use otadata::Verdict;
 use otadata::read;
+use otadata::sequence_of;
 use otadata::usable;
 
 // The record of a sector: its first 32 bytes, or an empty part of bytes that are no sector.
@@ -40,30 +40,27 @@ pub fn active(readings: [Reading; 2]) -> Holder
 {
     let first = readings[0];
     let second = readings[1];
-    if !usable(first) {
-        if usable(second) {
-            return Holder::Sector(1);
+    let higher = sequence_of(first) < sequence_of(second);
+    higher_of(usable(first), usable(second), higher)
+}
+
+// Of two records by which of them count, and whether the second has the higher sequence: the higher, sector 0 on a tie.
+pub fn higher_of(first: bool, second: bool, higher: bool) -> Holder
+    ensures { λ r. ⌜ r ≡ higherOf first second higher ⌝ }
+{
+    if !second {
+        if first {
+            return Holder::Sector(0);
         }
         return Holder::None;
     }
-    if !usable(second) {
-        return Holder::Sector(0);
+    if !first {
+        return Holder::Sector(1);
     }
-    if sequence_of(first) < sequence_of(second) {
+    if higher {
         return Holder::Sector(1);
     }
     Holder::Sector(0)
-}
-
-// The sequence of a good record, and 0 of none.
-fn sequence_of(reading: Reading) -> u32
-    ensures { λ r. ⌜ r ≡ sequenceIn (reading .verdict) ⌝ }
-{
-    let verdict = reading.verdict;
-    match verdict {
-        Verdict::None => 0,
-        Verdict::Good(sequence, _) => sequence.0,
-    }
 }
 
 // The active record's 32 bytes, as a part of the sector that holds it, or an empty part.

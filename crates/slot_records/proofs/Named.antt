@@ -2,12 +2,11 @@
 -- Assumes nothing.
 use Prim.Native.Nat.{ℕ, _<_}
 use mathlib.Core.Path.{_≡_, _∙_, sym}
-use mathlib.Core.Bool.{Bool, true, false, cond, not}
+use mathlib.Core.Bool.{Bool, true, false, cond}
 use mathlib.Core.List.{List}
 use native.Mathlib.Omega.{arith}
 use lib.Dec.{eqb, ltb}
 use lib.ListN.{length, getD}
-use borrow.Author.Tests.{not-true, not-false}
 use Rattle.otadata.specs.declared.Slot.{Slot}
 use Rattle.otadata.specs.declared.Sequence.{Sequence}
 use Rattle.otadata.specs.declared.State.{State}
@@ -16,10 +15,10 @@ use Rattle.otadata.specs.declared.Verdict.the-variants.{Good}
 use Rattle.otadata.specs.declared.Reading.{Reading}
 use Rattle.sectors.specs.declared.Holder.{Holder}
 use Rattle.sectors.specs.declared.Holder.the-variants.{None, Sector}
-use Rattle.otadata.specs.Records.{stateWord, namesSlot, noReading}
-use Rattle.sectors.specs.Sectors.{sequenceIn, ofUsable, active}
+use Rattle.otadata.specs.Records.{namesSlot, noReading, sequenceIn, inState}
+use Rattle.sectors.specs.Sectors.{higherOf, active}
 use Rattle.sectors.proofs.Activity.{default, by-usable, active-below-two}
-use Rattle.slot_records.specs.Naming.{names, ifNames, activeNaming, highestNaming, orHolder, namingRecord, inState, activePending}
+use Rattle.slot_records.specs.Naming.{names, ifNames, activeNaming, highestNaming, orHolder, namingRecord, activePending}
 
 -- ---- one record
 
@@ -27,36 +26,12 @@ pub slot-decides : (r : Reading) (q : Sequence) (state : State) → r .verdict �
     → (n s : ℕ) (slot : Slot) → slot .0 ≡ namesSlot n (q .0) → eqb (slot .0) s ≡ names n s (r .verdict)
 slot-decides r q state e n s slot named = simp (e, named)
 
-pub word-decides : (r : Reading) (q : Sequence) (its : State) → r .verdict ≡ Good q its
-    → (state : State) (a : ℕ) → a ≡ stateWord its → (b : ℕ) → b ≡ stateWord state → eqb a b ≡ inState state (r .verdict)
-word-decides r q its e state a ea b eb = simp (e, ea, eb)
-
--- ---- of the records that count, the higher
-
-module _ (first second higher : Bool) (no : not second ≡ true) where
-  pub only-first : first ≡ true → Sector 0 ≡ ofUsable first second higher
-  only-first y = simp (not-true second no, y)
-
-  pub neither : first ≡ false → None ≡ ofUsable first second higher
-  neither n = simp (not-true second no, n)
-
-module _ (first second higher : Bool) (yes : not second ≡ false) where
-  pub only-second : not first ≡ true → Sector 1 ≡ ofUsable first second higher
-  only-second n = simp (not-false second yes, not-true first n)
-
-  module _ (too : not first ≡ false) where
-    pub second-higher : higher ≡ true → Sector 1 ≡ ofUsable first second higher
-    second-higher y = simp (not-false second yes, not-false first too, y)
-
-    pub first-higher : higher ≡ false → Sector 0 ≡ ofUsable first second higher
-    first-higher n = simp (not-false second yes, not-false first too, n)
-
 -- ---- both readings
 
 pub highest-names : (rs : List Reading) → length rs ≡ 2 → (d : Reading) (n s : ℕ)
     → (a : ℕ) → a ≡ sequenceIn (getD rs 0 d .verdict) → (b : ℕ) → b ≡ sequenceIn (getD rs 1 d .verdict)
     → (first : Bool) → first ≡ names n s (getD rs 0 d .verdict) → (second : Bool) → second ≡ names n s (getD rs 1 d .verdict)
-    → (h : Holder) → h ≡ ofUsable first second (ltb a b) → h ≡ highestNaming n s rs
+    → (h : Holder) → h ≡ higherOf first second (ltb a b) → h ≡ highestNaming n s rs
 unfolding highestNaming
 highest-names rs size d n s a ea b eb first e0 second e1 h e =
     e ∙ simp (e0, e1, ea, eb, default rs 0 d noReading (omega arith), default rs 1 d noReading (omega arith))

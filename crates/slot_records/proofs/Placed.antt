@@ -2,18 +2,15 @@
 -- Assumes nothing.
 use Prim.Native.Nat.{ℕ, _+_, _-_, _<_, _≤_}
 use mathlib.Core.Path.{_≡_, _∙_}
-use mathlib.Core.Bool.{Bool, true, false, cond}
 use mathlib.Core.List.{List}
-use lib.Dec.{leb}
 use lib.ListN.{length, getD}
 use native.Mathlib.Omega.{arith}
 use borrow.Author.Tests.{lt-leb, le-leb}
-use Rattle.otadata.specs.declared.Sequence.{Sequence}
 use Rattle.otadata.specs.declared.Reading.{Reading}
 use Rattle.sectors.specs.declared.Holder.{Holder}
 use Rattle.sectors.specs.declared.Holder.the-variants.{None, Sector}
-use Rattle.otadata.specs.Records.{lastSequence}
-use Rattle.sectors.specs.Sectors.{sequenceIn, active}
+use Rattle.otadata.specs.Records.{sequenceIn}
+use Rattle.sectors.specs.Sectors.{active}
 use Rattle.slot_records.specs.declared.Placement.the-variants.{Nowhere, At}
 use Rattle.slot_records.specs.Placing.{nextSequence, newSequence, freeSector, placement}
 use Rattle.slot_records.proofs.Named.{at-active}
@@ -40,19 +37,3 @@ module _ (n s : ℕ) (rs : List Reading) (h : Holder) where
     pub placed-at : q ≤ 4294967294 → (k : ℕ) → k ≡ freeSector h → At k (record { 0 = q }) ≡ placement n s rs
     unfolding placement
     placed-at l k free = simp (← found, ← is, le-leb _ _ l, free)
-
--- ---- a place is in one of the two sectors
-
-free-below-two : (h : Holder) → freeSector h < 2
-free-below-two None = omega arith
-free-below-two (Sector k) = omega arith
-
-place-by : (b : Bool) (j : ℕ) (p : Sequence) → j < 2 → (k : ℕ) (q : Sequence) → cond b (At j p) Nowhere ≡ At k q → k < 2
-place-by true j p l k q e = let same : j ≡ k = cc in omega arith
-place-by false j p l k q e = absurd (let z : _≡_ {A = ℕ} 0 1 = cc in omega arith)
-
-pub place-below-two : (n s : ℕ) (rs : List Reading) (k : ℕ) (q : Sequence) → placement n s rs ≡ At k q → k < 2
-unfolding placement
-place-below-two n s rs =
-    let new = newSequence n s rs (active rs) in
-    place-by (leb new lastSequence) (freeSector (active rs)) (record { 0 = new }) (free-below-two (active rs))

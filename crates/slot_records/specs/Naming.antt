@@ -2,17 +2,16 @@
 use Prim.Native.Nat.{ℕ}
 use mathlib.Core.Bool.{Bool, false, cond}
 use mathlib.Core.List.{List}
-use lib.Dec.{eqb, ltb}
+use lib.Dec.{eqb}
 use lib.ListN.{getD}
-use Rattle.otadata.specs.declared.State.{State}
 use Rattle.otadata.specs.declared.State.the-variants.{Pending}
 use Rattle.otadata.specs.declared.Verdict.{Verdict}
 use Rattle.otadata.specs.declared.Verdict.the-variants.{None as NotGood, Good}
 use Rattle.otadata.specs.declared.Reading.{Reading}
 use Rattle.sectors.specs.declared.Holder.{Holder}
 use Rattle.sectors.specs.declared.Holder.the-variants.{None, Sector}
-use Rattle.otadata.specs.Records.{stateWord, namesSlot, noReading}
-use Rattle.sectors.specs.Sectors.{sequenceIn, ofUsable, active}
+use Rattle.otadata.specs.Records.{namesSlot, noReading, inState}
+use Rattle.sectors.specs.Sectors.{highestOf, active}
 
 -- the record is good and names slot s
 abbrev pub names : ℕ → ℕ → Verdict → Bool
@@ -30,10 +29,7 @@ activeNaming n s rs = ifNames n s rs (active rs)
 
 -- the sector of the good record of highest sequence that names slot s, sector 0 on a tie
 unfoldable pub highestNaming : ℕ → ℕ → List Reading → Holder
-highestNaming n s rs =
-    let first = getD rs 0 noReading .verdict in
-    let second = getD rs 1 noReading .verdict in
-    ofUsable (names n s first) (names n s second) (ltb (sequenceIn first) (sequenceIn second))
+highestNaming n s rs = highestOf (λ (r : Reading). names n s (r .verdict)) rs
 
 -- the first sector of two that is there
 abbrev pub orHolder : Holder → Holder → Holder
@@ -43,11 +39,6 @@ orHolder (Sector k) other = Sector k
 -- the active record if it names slot s, else the good record of highest sequence that names it
 unfoldable pub namingRecord : ℕ → ℕ → List Reading → Holder
 namingRecord n s rs = orHolder (activeNaming n s rs) (highestNaming n s rs)
-
--- the record is good and in that state
-abbrev pub inState : State → Verdict → Bool
-inState state NotGood = false
-inState state (Good q its) = eqb (stateWord its) (stateWord state)
 
 abbrev pub pendingIn : List Reading → Holder → Bool
 pendingIn rs None = false

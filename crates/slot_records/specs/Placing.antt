@@ -8,8 +8,8 @@ use lib.ListN.{getD}
 use Rattle.otadata.specs.declared.Reading.{Reading}
 use Rattle.sectors.specs.declared.Holder.{Holder}
 use Rattle.sectors.specs.declared.Holder.the-variants.{None, Sector}
-use Rattle.otadata.specs.Records.{lastSequence, namesSlot, noReading}
-use Rattle.sectors.specs.Sectors.{sequenceIn, active}
+use Rattle.otadata.specs.Records.{lastSequence, namesSlot, noReading, sequenceIn}
+use Rattle.sectors.specs.Sectors.{active}
 use Rattle.partitions.specs.PartitionList.{firstFrom}
 use Rattle.slot_records.specs.declared.Placement.{Placement}
 use Rattle.slot_records.specs.declared.Placement.the-variants.{Nowhere, At}

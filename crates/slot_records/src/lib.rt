@@ -4,7 +4,6 @@ mod placing;
 
 pub use naming::active_naming;
 pub use naming::active_pending;
-pub use naming::in_state;
 pub use naming::naming_record;
 use otadata::Sequence;
 pub use placing::place_new;

@@ -1,13 +1,15 @@
 // Which of the two records names a slot, with n slots.
 ghost use mathlib.Core.Path.{_≡_};
-ghost use Rattle.sectors.specs.Sectors.{ofUsable, sequenceIn};
-ghost use Rattle.slot_records.specs.Naming.{names as Naming·names, activeNaming, highestNaming, namingRecord, inState, activePending};
+ghost use Rattle.slot_records.specs.Naming.{names as Naming·names, activeNaming, highestNaming, namingRecord, activePending};
 use otadata::Reading;
 use otadata::Slot;
 use otadata::State;
 use otadata::Verdict;
+use otadata::in_state;
+use otadata::sequence_of;
 use sectors::Holder;
 use sectors::active;
+use sectors::higher_of;
 
 // The sector of the active record, where that names the slot.
 pub fn active_naming(readings: [Reading; 2], n: u32, slot: Slot) -> Holder
@@ -55,25 +57,6 @@ fn highest_naming(readings: [Reading; 2], n: u32, slot: Slot) -> Holder
     higher_of(names(first, n, slot), names(second, n, slot), higher)
 }
 
-// Of the records that count, the one of higher sequence, sector 0 on a tie.
-fn higher_of(first: bool, second: bool, higher: bool) -> Holder
-    ensures { λ r. ⌜ r ≡ ofUsable first second higher ⌝ }
-{
-    if !second {
-        if first {
-            return Holder::Sector(0);
-        }
-        return Holder::None;
-    }
-    if !first {
-        return Holder::Sector(1);
-    }
-    if higher {
-        return Holder::Sector(1);
-    }
-    Holder::Sector(0)
-}
-
 // Whether the record is good and names the slot.
 fn names(reading: Reading, n: u32, slot: Slot) -> bool
     ensures { λ r. ⌜ r ≡ Naming·names n (slot .0) (reading .verdict) ⌝ }
@@ -82,27 +65,5 @@ fn names(reading: Reading, n: u32, slot: Slot) -> bool
     match verdict {
         Verdict::None => false,
         Verdict::Good(sequence, _) => sequence.slot(n).0 == slot.0,
-    }
-}
-
-// Whether the record is good and in that state.
-pub fn in_state(reading: Reading, state: State) -> bool
-    ensures { λ r. ⌜ r ≡ inState state (reading .verdict) ⌝ }
-{
-    let verdict = reading.verdict;
-    match verdict {
-        Verdict::None => false,
-        Verdict::Good(_, its) => its.word() == state.word(),
-    }
-}
-
-// The sequence of a good record, and 0 of none.
-pub(crate) fn sequence_of(reading: Reading) -> u32
-    ensures { λ r. ⌜ r ≡ sequenceIn (reading .verdict) ⌝ }
-{
-    let verdict = reading.verdict;
-    match verdict {
-        Verdict::None => 0,
-        Verdict::Good(sequence, _) => sequence.0,
     }
 }

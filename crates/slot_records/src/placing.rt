@@ -3,11 +3,11 @@ ghost use mathlib.Core.Path.{_≡_};
 ghost use Rattle.sectors.specs.Sectors.{active as Sectors·active};
 ghost use Rattle.slot_records.specs.Placing.{nextSequence, newSequence, freeSector, placement};
 use crate::Placement;
-use crate::naming::sequence_of;
 use otadata::LAST_SEQUENCE;
 use otadata::Reading;
 use otadata::Sequence;
 use otadata::Slot;
+use otadata::sequence_of;
 use sectors::Holder;
 use sectors::active;
 

@@ -13,18 +13,19 @@ use Rattle.otadata.specs.declared.State.the-variants.{Pending, Invalid, Aborted
 use Rattle.otadata.specs.declared.Verdict.{Verdict}
 use Rattle.otadata.specs.declared.Verdict.the-variants.{None, Good}
 use Rattle.otadata.specs.declared.Reading.{Reading}
-use Rattle.otadata.specs.Records.{noReading}
-use Rattle.sectors.specs.Sectors.{sectorReading}
+use Rattle.otadata.specs.Records.{noReading, inState}
+use Rattle.sectors.specs.Sectors.{sectorReading, sectorAt, readingsOf, withState}
 use Rattle.sectors.proofs.Activity.{default}
 use Rattle.boot_choice.specs.declared.Settings.{Settings}
 use Rattle.boot_choice.specs.declared.Choice.{Choice}
 use Rattle.boot_choice.specs.declared.Choice.the-variants.{Nothing, Through, Factory, Found}
 use Rattle.boot_choice.specs.Choice.{chosen, choice}
-use Rattle.boot.specs.Boot.{sectorAt, readingsOf, withState, inState, markedAt, marked, replyTo, boot, Accepts}
+use Rattle.boot.specs.Boot.{markedAt, marked, replyTo, boot, Accepts}
 use Rattle.boot.proofs.Replies.{replies}
-use Rattle.boot.proofs.TwoSectors.{with-state-none, with-state-size, with-state-reading, tested-other, marked-at-size, readings-at, readings-replaced}
+use Rattle.boot.proofs.Marking.{marked-at-size}
 use Rattle.update.specs.Marks.{choosesNothing}
 use Rattle.update.specs.Fallback.{verdictIn, readingIn, abortedReading, abortedReadings, fallsBack}
+use Rattle.sectors.proofs.TwoSectors.{with-state-none, with-state-size, with-state-reading, tested-other, readings-at, readings-replaced}
 
 -- ---- as the code makes the readings
 

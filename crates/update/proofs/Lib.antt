@@ -1,5 +1,4 @@
 pub mod Fallback
-pub mod LentSectors
 pub mod MarkLaws
 pub mod QueryLaws
 pub mod SetLaws

@@ -22,8 +22,7 @@ use Rattle.partitions.specs.declared.Checked.{Checked}
 use Rattle.partitions.specs.declared.Checked.the-variants.{Refused as NotAccepted, Accepted}
 use Rattle.boot_choice.specs.declared.Settings.{Settings}
 use Rattle.boot_choice.specs.Acceptance.{acceptedNode, accepted}
-use Rattle.boot.specs.Boot.{readingsOf}
-use Rattle.boot.proofs.TestLaws.{node-tested, tests-decide, where-accepted}
+use Rattle.sectors.specs.Sectors.{readingsOf}
 use Rattle.slot_records.specs.Naming.{namingRecord}
 use Rattle.slot_records.proofs.Named.{record-below-two}
 use Rattle.update.specs.declared.Queried.{Queried}
@@ -62,10 +61,6 @@ module _ (list : List ℕ) (capacity : ℕ) (o : List ℕ) (s : ℕ) (a : Checke
   by-tests : slotTest s (acceptedNode list capacity (length o)) ≡ c
   by-tests = sym (is ∙ ap (slotTest s) node)
 
-  pub query-size : (listing : Listing) → c ≡ Accepted listing → length o ≡ 8192
-  query-size listing e =
-      where-accepted (node-tested list capacity (length o)) listing (sym node ∙ below-count s a listing (sym is ∙ e) .before)
-
   pub query-refused : (number : ℕ) → c ≡ NotAccepted number → NotFound number ≡ stateQuery list capacity o s
   unfolding stateQuery
   query-refused number e = simp (by-tests, e)
@@ -93,21 +88,17 @@ module _ (n : ℕ) (settings : Settings) (running : App) (rs : List Reading) (t 
   next-follows f s e = simp (← tested, f, e)
 
 running-counted : (running : App) (a : Checked) (listing : Listing) → runningTest running a ≡ Accepted listing
-    → (a ≡ Accepted listing) × Counted (listing .slots) running
-running-counted Factory a listing e = (e, tt)
-running-counted (OtaSlot s) a listing e = let b = below-count (s .0) a listing e in (b .before, b .below)
+    → Counted (listing .slots) running
+running-counted Factory a listing e = tt
+running-counted (OtaSlot s) a listing e = below-count (s .0) a listing e .below
 
 module _ (list : List ℕ) (capacity : ℕ) (o : List ℕ) (settings : Settings) (running : App)
     (a : Checked) (before : a ≡ accepted list capacity (length o) settings) (c : Checked) (is : c ≡ runningTest running a) where
   all-tests : runningTest running (accepted list capacity (length o) settings) ≡ c
   all-tests = sym (is ∙ ap (runningTest running) before)
 
-  module _ (listing : Listing) (e : c ≡ Accepted listing) where
-    pub next-size : length o ≡ 8192
-    next-size = where-accepted (tests-decide list capacity (length o) settings) listing (sym before ∙ running-counted running a listing (sym is ∙ e) .0)
-
-    pub next-counted : Counted (listing .slots) running
-    next-counted = running-counted running a listing (sym is ∙ e) .1
+  pub next-counted : (listing : Listing) → c ≡ Accepted listing → Counted (listing .slots) running
+  next-counted listing e = running-counted running a listing (sym is ∙ e)
 
   pub next-refused : (number : ℕ) → c ≡ NotAccepted number → NoNext number ≡ nextSlot list capacity o settings running
   unfolding nextSlot

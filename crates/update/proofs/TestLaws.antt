@@ -7,14 +7,17 @@ use mathlib.Core.List.{List}
 use native.Mathlib.Omega.{arith}
 use lib.Dec.{ltb}
 use borrow.Author.Tests.{lt-ltb, le-ltb, ltb-true, not-true, not-false}
+use denote.Ref.{RefT, now}
 use Rattle.otadata.specs.declared.Slot.{Slot}
 use Rattle.otadata.specs.declared.Reading.{Reading}
-use Rattle.sectors.specs.Sectors.{Part}
+use Rattle.sectors.specs.declared.Holder.{Holder}
+use Rattle.sectors.specs.declared.Holder.the-variants.{None}
+use Rattle.sectors.specs.Sectors.{part, readingsOf}
 use Rattle.partitions.specs.declared.App.{App}
 use Rattle.partitions.specs.declared.App.the-variants.{OtaSlot}
 use Rattle.partitions.specs.declared.Listing.{Listing}
 use Rattle.partitions.specs.declared.Checked.{Checked}
-use Rattle.partitions.specs.declared.Checked.the-variants.{Refused, Accepted}
+use Rattle.partitions.specs.declared.Checked.the-variants.{Refused as NotAccepted, Accepted}
 use Rattle.partitions.specs.PartitionList.{appPart}
 use Rattle.app_image.specs.declared.Facts.{Facts}
 use Rattle.app_image.specs.declared.Refusal.{Refusal as ImageRefusal}
@@ -25,11 +28,14 @@ use Rattle.boot_choice.specs.declared.Settings.{Settings}
 use Rattle.boot_choice.specs.Acceptance.{accepted}
 use Rattle.boot_choice.specs.Choice.{image, tooOld}
 use Rattle.boot_choice.proofs.Tries.{checked-image}
-use Rattle.slot_records.specs.Naming.{activePending}
+use Rattle.slot_records.specs.Naming.{activeNaming, activePending}
 use Rattle.update.specs.declared.Refusal.{Refusal}
+use Rattle.update.specs.declared.Reply.{Reply}
+use Rattle.update.specs.declared.Reply.the-variants.{Refused}
+use Rattle.update.specs.declared.Examined.{Examined}
 use Rattle.update.specs.declared.Examined.the-variants.{Unfit, Fit}
-use Rattle.update.specs.Replies.{noImage, refusalOf, refusal, imageRefusal}
-use Rattle.update.specs.Tests.{slotTest, runningTest, acceptedSlot, examined, unconfirmed}
+use Rattle.update.specs.Replies.{noImage, refusalOf, refusal, imageRefusal, Outcome, outcome}
+use Rattle.update.specs.Tests.{slotTest, runningTest, acceptedSlot, examined, unconfirmed, afterTests, afterImage, afterNaming}
 
 pub no-image-refused : (settings : Settings) (number : ℕ) (i : ImageRefusal) → i ≡ noImage
     → _≡_ {A = Refusal} (record { number = number; image = i; register = settings .efuse }) (refusal settings number)
@@ -38,12 +44,12 @@ no-image-refused settings number i e = simp e
 -- ---- 4
 
 module _ (s : ℕ) (c : Checked) where
-  pub refused-before : (number : ℕ) → c ≡ Refused number → c ≡ slotTest s c
+  pub refused-before : (number : ℕ) → c ≡ NotAccepted number → c ≡ slotTest s c
   unfolding slotTest
   refused-before number e = e ∙ simp e
 
   module _ (listing : Listing) (e : c ≡ Accepted listing) where
-    pub no-such-slot : listing .slots ≤ s → Refused 4 ≡ slotTest s c
+    pub no-such-slot : listing .slots ≤ s → NotAccepted 4 ≡ slotTest s c
     unfolding slotTest
     no-such-slot l = simp (e, le-ltb _ _ l)
 
@@ -56,7 +62,7 @@ pub record BelowCount (s : ℕ) (c : Checked) (listing : Listing) : Type 0 where
   pub before : c ≡ Accepted listing
   pub below : s < listing .slots
 
-below-by : (b : Bool) (s : ℕ) (d listing : Listing) → ltb s (d .slots) ≡ b → cond (not b) (Refused 4) (Accepted d) ≡ Accepted listing
+below-by : (b : Bool) (s : ℕ) (d listing : Listing) → ltb s (d .slots) ≡ b → cond (not b) (NotAccepted 4) (Accepted d) ≡ Accepted listing
     → BelowCount s (Accepted d) listing
 below-by true s d listing l e =
     let same : d ≡ listing = cc in
@@ -65,7 +71,7 @@ below-by false s d listing l e = absurd (let z : _≡_ {A = ℕ} 0 1 = cc in ome
 
 pub below-count : (s : ℕ) (c : Checked) (listing : Listing) → slotTest s c ≡ Accepted listing → BelowCount s c listing
 unfolding slotTest
-below-count s (Refused number) listing e = absurd (let z : _≡_ {A = ℕ} 0 1 = cc in omega arith)
+below-count s (NotAccepted number) listing e = absurd (let z : _≡_ {A = ℕ} 0 1 = cc in omega arith)
 below-count s (Accepted d) listing e = below-by (ltb s (d .slots)) s d listing refl e
 
 pub running-slot : (c : Checked) (running : App) (slot : Slot) → running ≡ OtaSlot slot → (r : Checked) → r ≡ slotTest (slot .0) c → r ≡ runningTest running c
@@ -77,22 +83,23 @@ four-tests list capacity size settings s a before r is = is ∙ ap (slotTest s) 
 
 -- ---- 5 and 6
 
-module _ (list : List ℕ) (flash : Part) (settings : Settings) (slot : Slot) (handed : Part) (by-list : handed ≡ appPart list flash (OtaSlot slot))
-    (c : ImageChecked) (found : c ≡ check (handed .content) (settings .chip)) where
-  its-check : check (image list (flash .content) (OtaSlot slot)) (settings .chip) ≡ c
+module _ (list : List ℕ) (flash : RefT (List ℕ)) (settings : Settings) (slot : Slot)
+    (handed : RefT (List ℕ)) (by-list : part handed ≡ appPart list (part flash) (OtaSlot slot))
+    (c : ImageChecked) (found : c ≡ check (now handed) (settings .chip)) where
+  its-check : check (image list (now flash) (OtaSlot slot)) (settings .chip) ≡ c
   its-check = checked-image list flash settings (OtaSlot slot) handed by-list c found
 
   pub image-unfit : (why : ImageRefusal) → c ≡ ImageRefused why → (own : ImageRefusal) → own ≡ refusalOf c
-      → Unfit (imageRefusal settings own) ≡ examined list (flash .content) settings slot
+      → Unfit (imageRefusal settings own) ≡ examined list (now flash) settings slot
   unfolding examined
   image-unfit why e own is = simp (its-check, is, e)
 
   module _ (facts : Facts) (e : c ≡ ImageAccepted facts) (t : Bool) (tested : t ≡ tooOld settings (facts .version .0)) where
-    pub version-unfit : t ≡ true → (why : Refusal) → why ≡ refusal settings 6 → Unfit why ≡ examined list (flash .content) settings slot
+    pub version-unfit : t ≡ true → (why : Refusal) → why ≡ refusal settings 6 → Unfit why ≡ examined list (now flash) settings slot
     unfolding examined
     version-unfit y why is = simp (its-check, e, ← tested, y, is)
 
-    pub app-fit : t ≡ false → Fit facts ≡ examined list (flash .content) settings slot
+    pub app-fit : t ≡ false → Fit facts ≡ examined list (now flash) settings slot
     unfolding examined
     app-fit n = simp (its-check, e, ← tested, n)
 
@@ -106,3 +113,28 @@ module _ (settings : Settings) (rs : List Reading) where
   pub pending-unconfirmed : not (settings .rollback) ≡ false → (t : Bool) → t ≡ activePending rs → t ≡ unconfirmed settings rs
   unfolding unconfirmed
   pending-unconfirmed on t tested = tested ∙ simp (not-false (settings .rollback) on)
+
+-- ---- a test, then the rest of the call
+
+module _ (settings : Settings) (o : List ℕ) (a c : Checked) (is : c ≡ a) (rest : ℕ → Outcome) where
+  pub tests-refused : (number : ℕ) → c ≡ NotAccepted number → (why : Refusal) → why ≡ refusal settings number
+      → outcome (Refused why) o ≡ afterTests settings o a rest
+  tests-refused number e why w = simp (← is, e, w)
+
+  pub tests-accepted : (listing : Listing) → c ≡ Accepted listing → (r : Reply) (left : List ℕ) → outcome r left ≡ rest (listing .slots)
+      → outcome r left ≡ afterTests settings o a rest
+  tests-accepted listing e r left out = out ∙ simp (← is, e)
+
+module _ (o : List ℕ) (a t : Examined) (is : t ≡ a) (rest : Facts → Outcome) where
+  pub image-refused : (why : Refusal) → t ≡ Unfit why → outcome (Refused why) o ≡ afterImage o a rest
+  image-refused why e = simp (← is, e)
+
+  pub image-accepted : (facts : Facts) → t ≡ Fit facts → (r : Reply) (left : List ℕ) → outcome r left ≡ rest facts
+      → outcome r left ≡ afterImage o a rest
+  image-accepted facts e r left out = out ∙ simp (← is, e)
+
+module _ (settings : Settings) (o : List ℕ) (n s : ℕ) (rs : List Reading) (read : rs ≡ readingsOf o)
+    (h : Holder) (found : h ≡ activeNaming n s rs) (rest : ℕ → Outcome) where
+  pub not-named : h ≡ None → (why : Refusal) → why ≡ refusal settings 8
+      → outcome (Refused why) o ≡ afterNaming settings o (activeNaming n s (readingsOf o)) rest
+  not-named e why w = simp (← read, ← found, e, w)

@@ -8,10 +8,9 @@ use Rattle.otadata.specs.declared.State.the-variants.{Pending, Invalid, Aborted
 use Rattle.otadata.specs.declared.Verdict.{Verdict}
 use Rattle.otadata.specs.declared.Verdict.the-variants.{None as NotGood, Good}
 use Rattle.otadata.specs.declared.Reading.{Reading}
-use Rattle.otadata.specs.Records.{noReading}
+use Rattle.otadata.specs.Records.{noReading, inState}
 use Rattle.boot_choice.specs.declared.Settings.{Settings}
 use Rattle.boot_choice.specs.Choice.{chosen, choice}
-use Rattle.boot.specs.Boot.{inState}
 
 -- a good record in another state
 abbrev pub verdictIn : State → Verdict → Verdict

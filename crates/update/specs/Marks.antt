@@ -6,22 +6,17 @@ use lib.Dec.{eqb}
 use lib.ListN.{length}
 use Rattle.otadata.specs.declared.Slot.{Slot}
 use Rattle.otadata.specs.declared.State.the-variants.{Valid, Invalid}
-use Rattle.sectors.specs.declared.Holder.{Holder}
-use Rattle.sectors.specs.declared.Holder.the-variants.{None, Sector}
-use Rattle.sectors.specs.Sectors.{sectorReading}
+use Rattle.sectors.specs.Sectors.{sectorReading, sectorAt, readingsOf, withState}
 use Rattle.efuse.specs.Register.{width, raised}
-use Rattle.partitions.specs.declared.Checked.{Checked}
-use Rattle.partitions.specs.declared.Checked.the-variants.{Refused as NotAccepted, Accepted}
+use Rattle.app_image.specs.declared.Facts.{Facts}
 use Rattle.boot_choice.specs.declared.Settings.{Settings}
 use Rattle.boot.specs.declared.Reply.{Reply as BootReply}
 use Rattle.boot.specs.declared.Reply.the-variants.{Refused as BootRefused, Starts}
-use Rattle.boot.specs.Boot.{sectorAt, readingsOf, withState, inState, boot}
+use Rattle.boot.specs.Boot.{boot}
 use Rattle.slot_records.specs.Naming.{activeNaming}
-use Rattle.update.specs.declared.Examined.{Examined}
-use Rattle.update.specs.declared.Examined.the-variants.{Unfit, Fit}
-use Rattle.update.specs.declared.Reply.the-variants.{Refused}
 use Rattle.update.specs.Replies.{refused, done, Outcome, outcome}
-use Rattle.update.specs.Tests.{acceptedSlot, examined}
+use Rattle.update.specs.Tests.{acceptedSlot, examined, afterTests, afterImage, afterNaming}
+use Rattle.otadata.specs.Records.{inState}
 
 -- ---- mark-valid
 
@@ -33,25 +28,20 @@ confirmed k o = cond (inState Valid (sectorReading (sectorAt k o) .verdict)) o (
 abbrev pub registerRaised : Settings → ℕ → ℕ
 registerRaised settings v = cond (settings .«anti_rollback») (raised width (settings .efuse) v) (settings .efuse)
 
--- 5 and 6, then the mark of the record of sector k
-abbrev pub validAfter : Settings → ℕ → List ℕ → Examined → Outcome
-validAfter settings k o (Unfit why) = outcome (Refused why) o
-validAfter settings k o (Fit facts) = outcome (done (registerRaised settings (facts .version .0))) (confirmed k o)
+-- the mark of the record of sector k, of an app with these facts
+abbrev pub confirms : Settings → ℕ → List ℕ → Facts → Outcome
+confirms settings k o facts = outcome (done (registerRaised settings (facts .version .0))) (confirmed k o)
 
--- 8, then the rest
-abbrev pub validNamed : List ℕ → List ℕ → Settings → Slot → List ℕ → Holder → Outcome
-validNamed list flash settings s o None = outcome (refused settings 8) o
-validNamed list flash settings s o (Sector k) = validAfter settings k o (examined list flash settings s)
-
--- 1 to 4, then the rest
-abbrev pub validTested : List ℕ → List ℕ → List ℕ → Settings → Slot → Checked → Outcome
-validTested list flash o settings s (NotAccepted number) = outcome (refused settings number) o
-validTested list flash o settings s (Accepted listing) =
-    validNamed list flash settings s o (activeNaming (listing .slots) (s .0) (readingsOf o))
+-- 8, then 5 and 6, with n slots
+abbrev pub validNamed : List ℕ → List ℕ → List ℕ → Settings → Slot → ℕ → Outcome
+validNamed list flash o settings s n =
+    afterNaming settings o (activeNaming n (s .0) (readingsOf o))
+    (λ (k : ℕ). afterImage o (examined list flash settings s) (confirms settings k o))
 
 -- document 01's mark-valid of the running slot s
 unfoldable pub markValid : List ℕ → List ℕ → List ℕ → Settings → Slot → Outcome
-markValid list flash o settings s = validTested list flash o settings s (acceptedSlot list (length flash) (length o) settings (s .0))
+markValid list flash o settings s =
+    afterTests settings o (acceptedSlot list (length flash) (length o) settings (s .0)) (validNamed list flash o settings s)
 
 -- ---- mark-invalid
 
@@ -65,17 +55,13 @@ abbrev pub unlessLast : List ℕ → List ℕ → Settings → List ℕ → List
 unlessLast list flash settings o left =
     cond (choosesNothing (boot list flash left settings .reply)) (outcome (refused settings 9) o) (outcome (done (settings .efuse)) left)
 
--- 8, then the rest; the record of sector k becomes invalid
-abbrev pub invalidNamed : List ℕ → List ℕ → Settings → List ℕ → Holder → Outcome
-invalidNamed list flash settings o None = outcome (refused settings 8) o
-invalidNamed list flash settings o (Sector k) = unlessLast list flash settings o (withState Invalid k o)
-
--- 1 to 4, then the rest
-abbrev pub invalidTested : List ℕ → List ℕ → List ℕ → Settings → Slot → Checked → Outcome
-invalidTested list flash o settings s (NotAccepted number) = outcome (refused settings number) o
-invalidTested list flash o settings s (Accepted listing) =
-    invalidNamed list flash settings o (activeNaming (listing .slots) (s .0) (readingsOf o))
+-- 8, then 9, with n slots; the active record becomes invalid
+abbrev pub invalidNamed : List ℕ → List ℕ → List ℕ → Settings → Slot → ℕ → Outcome
+invalidNamed list flash o settings s n =
+    afterNaming settings o (activeNaming n (s .0) (readingsOf o))
+    (λ (k : ℕ). unlessLast list flash settings o (withState Invalid k o))
 
 -- document 01's mark-invalid of the running slot s
 unfoldable pub markInvalid : List ℕ → List ℕ → List ℕ → Settings → Slot → Outcome
-markInvalid list flash o settings s = invalidTested list flash o settings s (acceptedSlot list (length flash) (length o) settings (s .0))
+markInvalid list flash o settings s =
+    afterTests settings o (acceptedSlot list (length flash) (length o) settings (s .0)) (invalidNamed list flash o settings s)

@@ -15,7 +15,7 @@ use Rattle.partitions.specs.declared.Checked.{Checked}
 use Rattle.partitions.specs.declared.Checked.the-variants.{Refused as NotAccepted, Accepted}
 use Rattle.boot_choice.specs.declared.Settings.{Settings}
 use Rattle.boot_choice.specs.Acceptance.{acceptedNode, accepted}
-use Rattle.boot.specs.Boot.{readingsOf}
+use Rattle.sectors.specs.Sectors.{readingsOf}
 use Rattle.slot_records.specs.Naming.{namingRecord}
 use Rattle.update.specs.declared.Queried.{Queried}
 use Rattle.update.specs.declared.Queried.the-variants.{Refused as NotFound, Found}

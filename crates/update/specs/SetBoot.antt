@@ -10,20 +10,15 @@ use Rattle.otadata.specs.declared.State.the-variants.{New, Undefined}
 use Rattle.sectors.specs.declared.Holder.{Holder}
 use Rattle.sectors.specs.declared.Holder.the-variants.{None, Sector}
 use Rattle.otadata.specs.Records.{stateWord, made}
-use Rattle.sectors.specs.Sectors.{rewrite}
-use Rattle.partitions.specs.declared.Checked.{Checked}
-use Rattle.partitions.specs.declared.Checked.the-variants.{Refused as NotAccepted, Accepted}
+use Rattle.sectors.specs.Sectors.{readingsOf, withRecord}
+use Rattle.app_image.specs.declared.Facts.{Facts}
 use Rattle.boot_choice.specs.declared.Settings.{Settings}
-use Rattle.boot.specs.Boot.{sectorAt, withSector, readingsOf}
 use Rattle.slot_records.specs.declared.Placement.{Placement}
 use Rattle.slot_records.specs.declared.Placement.the-variants.{Nowhere, At}
 use Rattle.slot_records.specs.Naming.{activeNaming}
 use Rattle.slot_records.specs.Placing.{placement}
-use Rattle.update.specs.declared.Examined.{Examined}
-use Rattle.update.specs.declared.Examined.the-variants.{Unfit, Fit}
-use Rattle.update.specs.declared.Reply.the-variants.{Refused}
 use Rattle.update.specs.Replies.{refused, done, Outcome, outcome}
-use Rattle.update.specs.Tests.{acceptedSlot, examined, unconfirmed}
+use Rattle.update.specs.Tests.{acceptedSlot, examined, unconfirmed, afterTests, afterImage}
 
 -- ---- the new record
 
@@ -34,10 +29,6 @@ newState settings = cond (settings .rollback) New Undefined
 -- its 32 bytes: the label is 20 bytes 0xFF
 unfoldable pub newRecord : Settings → Sequence → List ℕ
 newRecord settings q = made (q .0) (replicate 20 255) (stateWord (newState settings)) .rec
-
--- otadata with that record in sector k, by a whole rewrite of that sector
-unfoldable pub withRecord : List ℕ → ℕ → List ℕ → List ℕ
-withRecord rec k o = withSector k (rewrite (sectorAt k o) rec .sector) o
 
 -- ---- the call
 
@@ -58,17 +49,11 @@ pointed n s settings o =
     (outcome (refused settings 11) o)
     (unlessNamed settings o (activeNaming n s (readingsOf o)) (placedAt settings o (placement n s (readingsOf o))))
 
--- 5 and 6, then the rest
-abbrev pub afterImage : Settings → List ℕ → Examined → Outcome → Outcome
-afterImage settings o (Unfit why) rest = outcome (Refused why) o
-afterImage settings o (Fit facts) rest = rest
-
--- 1 to 4, then the rest
-abbrev pub afterTests : List ℕ → List ℕ → List ℕ → Settings → Slot → Checked → Outcome
-afterTests list flash o settings s (NotAccepted number) = outcome (refused settings number) o
-afterTests list flash o settings s (Accepted listing) =
-    afterImage settings o (examined list flash settings s) (pointed (listing .slots) (s .0) settings o)
+-- 5 and 6, and what follows, with n slots
+abbrev pub setListed : List ℕ → List ℕ → List ℕ → Settings → Slot → ℕ → Outcome
+setListed list flash o settings s n = afterImage o (examined list flash settings s) (λ (facts : Facts). pointed n (s .0) settings o)
 
 -- document 01's set-boot of slot s
 unfoldable pub setBoot : List ℕ → List ℕ → List ℕ → Settings → Slot → Outcome
-setBoot list flash o settings s = afterTests list flash o settings s (acceptedSlot list (length flash) (length o) settings (s .0))
+setBoot list flash o settings s =
+    afterTests settings o (acceptedSlot list (length flash) (length o) settings (s .0)) (setListed list flash o settings s)

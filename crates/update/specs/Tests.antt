@@ -5,10 +5,14 @@ use mathlib.Core.List.{List}
 use lib.Dec.{ltb}
 use Rattle.otadata.specs.declared.Slot.{Slot}
 use Rattle.otadata.specs.declared.Reading.{Reading}
+use Rattle.sectors.specs.declared.Holder.{Holder}
+use Rattle.sectors.specs.declared.Holder.the-variants.{None, Sector}
 use Rattle.partitions.specs.declared.App.{App}
 use Rattle.partitions.specs.declared.App.the-variants.{Factory, OtaSlot}
 use Rattle.partitions.specs.declared.Listing.{Listing}
 use Rattle.partitions.specs.declared.Checked.{Checked}
+use Rattle.partitions.specs.declared.Checked.the-variants.{Refused as NotAccepted, Accepted}
+use Rattle.app_image.specs.declared.Facts.{Facts}
 use Rattle.app_image.specs.declared.Checked.{Checked as ImageChecked}
 use Rattle.app_image.specs.declared.Checked.the-variants.{Refused as ImageRefused, Accepted as ImageAccepted}
 use Rattle.app_image.specs.Check.{check}
@@ -18,7 +22,8 @@ use Rattle.boot_choice.specs.Choice.{image, tooOld}
 use Rattle.slot_records.specs.Naming.{activePending}
 use Rattle.update.specs.declared.Examined.{Examined}
 use Rattle.update.specs.declared.Examined.the-variants.{Unfit, Fit}
-use Rattle.update.specs.Replies.{refusal, imageRefusal}
+use Rattle.update.specs.declared.Reply.the-variants.{Refused}
+use Rattle.update.specs.Replies.{refusal, imageRefusal, refused, Outcome, outcome}
 
 -- 4: the slot is not below n
 abbrev pub notBelow : ℕ → Listing → Bool
@@ -49,3 +54,20 @@ examined list flash settings s = held settings (check (image list flash (OtaSlot
 -- 11: the active record is pending, with rollback on
 unfoldable pub unconfirmed : Settings → List Reading → Bool
 unconfirmed settings rs = settings .rollback && activePending rs
+
+-- ---- the tests of set-boot and of the marks, each before the rest of the call; a refusal changes nothing
+
+-- 1 to 4, then the rest, with the number of slots
+abbrev pub afterTests : Settings → List ℕ → Checked → (ℕ → Outcome) → Outcome
+afterTests settings o (NotAccepted number) rest = outcome (refused settings number) o
+afterTests settings o (Accepted listing) rest = rest (listing .slots)
+
+-- 5 and 6, then the rest, with the facts of the image
+abbrev pub afterImage : List ℕ → Examined → (Facts → Outcome) → Outcome
+afterImage o (Unfit why) rest = outcome (Refused why) o
+afterImage o (Fit facts) rest = rest facts
+
+-- 8, then the rest, with the sector of the record that names the slot
+abbrev pub afterNaming : Settings → List ℕ → Holder → (ℕ → Outcome) → Outcome
+afterNaming settings o None rest = outcome (refused settings 8) o
+afterNaming settings o (Sector k) rest = rest k

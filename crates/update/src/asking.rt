@@ -6,7 +6,6 @@ use crate::NOT_NAMED;
 use crate::NextSlot;
 use crate::Queried;
 use crate::UNCONFIRMED;
-use crate::lending::read_both;
 use crate::testing::below_count;
 use crate::testing::known_running;
 use crate::testing::unconfirmed;
@@ -19,6 +18,7 @@ use otadata::Verdict;
 use partitions::App;
 use partitions::Checked;
 use sectors::Holder;
+use sectors::read_both;
 use slot_records::naming_record;
 
 // The state of the record that names the slot.

@@ -1,6 +1,5 @@
 // The calls besides boot: set-boot, mark-valid, mark-invalid, the state query and the next update slot.
 mod asking;
-mod lending;
 mod marking;
 mod setting;
 mod testing;

@@ -2,36 +2,35 @@
 ghost use mathlib.Core.Path.{_≡_};
 ghost use Prim.Native.Nat.{_<_};
 ghost use lib.ListN.{length};
-ghost use Rattle.sectors.specs.Sectors.{sectorReading};
-ghost use Rattle.boot.specs.Boot.{sectorAt, readingsOf, Accepts};
-ghost use Rattle.boot_choice.specs.Choice.{chosen as Choice·chosen};
-ghost use Rattle.slot_records.specs.Naming.{activeNaming};
+ghost use Rattle.sectors.specs.Sectors.{sectorReading, sectorAt};
+ghost use Rattle.boot.specs.Boot.{Accepts};
 ghost use Rattle.update.specs.Replies.{outcome};
-ghost use Rattle.update.specs.Marks.{confirmed, registerRaised, validAfter, validNamed, markValid, invalidNamed, markInvalid};
+ghost use Rattle.update.specs.Tests.{afterImage};
+ghost use Rattle.update.specs.Marks.{confirmed, registerRaised, confirms, validNamed, markValid, invalidNamed, markInvalid};
 ghost use Rattle.update.specs.Fallback.{readingIn, abortedReading, abortedReadings, fallsBack};
 use crate::Completion;
 use crate::Examined;
 use crate::NO_FALLBACK;
 use crate::NOT_NAMED;
 use crate::Reply;
-use crate::lending::read_both;
-use crate::lending::restate_at;
 use crate::testing::accept_slot;
 use crate::testing::examine;
 use crate::testing::refusal;
-use boot_choice::Choice;
 use boot_choice::Settings;
 use boot_choice::choose;
+use boot_choice::chosen;
 use efuse::SecureVersion;
 use efuse::raise;
 use otadata::Reading;
 use otadata::Slot;
 use otadata::State;
 use otadata::Verdict;
+use otadata::in_state;
 use partitions::Checked;
 use sectors::Holder;
+use sectors::read_both;
+use sectors::restate_at;
 use slot_records::active_naming;
-use slot_records::in_state;
 
 // Confirms the running app: the active record becomes valid. The register in the reply is to be burned after this call.
 pub fn mark_valid(
@@ -66,8 +65,7 @@ fn confirm_named(
     running: Slot,
     n: u32,
 ) -> Reply
-    requires { ⌜ length (now otadata) ≡ 8192 ⌝ }
-    ensures { λ r. ⌜ outcome r (now (otadata .exit)) ≡ validNamed (now (list .entry)) (now (flash .entry)) settings running (now (otadata .entry)) (activeNaming n (running .0) (readingsOf (now (otadata .entry)))) ⌝ }
+    ensures { λ r. ⌜ outcome r (now (otadata .exit)) ≡ validNamed (now (list .entry)) (now (flash .entry)) (now (otadata .entry)) settings running n ⌝ }
 {
     let readings = read_both(otadata);
     let holder = active_naming(readings, n, running);
@@ -86,8 +84,8 @@ fn confirm_fit(
     k: usize,
     tested: Examined,
 ) -> Reply
-    requires { ⌜ (k < 2) × (length (now otadata) ≡ 8192) × (reading ≡ sectorReading (sectorAt k (now otadata))) ⌝ }
-    ensures { λ r. ⌜ outcome r (now (otadata .exit)) ≡ validAfter settings k (now (otadata .entry)) tested ⌝ }
+    requires { ⌜ reading ≡ sectorReading (sectorAt k (now otadata)) ⌝ }
+    ensures { λ r. ⌜ outcome r (now (otadata .exit)) ≡ afterImage (now (otadata .entry)) tested (confirms settings k (now (otadata .entry))) ⌝ }
 {
     match tested {
         Examined::Unfit(why) => Reply::Refused(why),
@@ -102,7 +100,7 @@ fn confirm_fit(
 
 // The record of sector k becomes valid. Nothing is written if it was.
 fn confirm(otadata: &mut [u8], reading: Reading, k: usize)
-    requires { ⌜ (k < 2) × (length (now otadata) ≡ 8192) × (reading ≡ sectorReading (sectorAt k (now otadata))) ⌝ }
+    requires { ⌜ reading ≡ sectorReading (sectorAt k (now otadata)) ⌝ }
     ensures { λ r. ⌜ now (otadata .exit) ≡ confirmed k (now (otadata .entry)) ⌝ }
 {
     if in_state(reading, State::Valid) {
@@ -155,7 +153,7 @@ fn give_up_named(
     n: u32,
 ) -> Reply
     requires { ⌜ (length (now otadata) ≡ 8192) × Accepts (now list) (length (now flash)) 8192 settings ⌝ }
-    ensures { λ r. ⌜ outcome r (now (otadata .exit)) ≡ invalidNamed (now (list .entry)) (now (flash .entry)) settings (now (otadata .entry)) (activeNaming n (running .0) (readingsOf (now (otadata .entry)))) ⌝ }
+    ensures { λ r. ⌜ outcome r (now (otadata .exit)) ≡ invalidNamed (now (list .entry)) (now (flash .entry)) (now (otadata .entry)) settings running n ⌝ }
 {
     let readings = read_both(otadata);
     let failing = active_naming(readings, n, running);
@@ -186,18 +184,6 @@ fn falls_back(
     let mut left = readings;
     left[k] = invalid;
     chosen(choose(list, flash, settings, aborted_both(settings, left)))
-}
-
-// Whether something is chosen.
-fn chosen(choice: Choice) -> bool
-    ensures { λ r. ⌜ r ≡ Choice·chosen choice ⌝ }
-{
-    match choice {
-        Choice::Nothing => false,
-        Choice::Through(_, _, _) => true,
-        Choice::Factory(_) => true,
-        Choice::Found(_, _) => true,
-    }
 }
 
 // What step 1 of boot makes of both records.

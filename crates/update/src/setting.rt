@@ -1,19 +1,12 @@
 // Set-boot: the record that names a slot goes into the sector that is not active.
 ghost use mathlib.Core.Path.{_≡_};
-ghost use Prim.Native.Nat.{ℕ, _<_};
-ghost use lib.ListN.{length};
-ghost use Rattle.otadata.specs.declared.Sequence.{Sequence};
 ghost use Rattle.update.specs.Replies.{done, outcome};
-ghost use Rattle.update.specs.Tests.{examined};
-ghost use Rattle.update.specs.SetBoot.{newRecord, newState, placedAt, pointed, afterImage, setBoot};
-ghost use Rattle.slot_records.specs.declared.Placement.the-variants.{At};
+ghost use Rattle.update.specs.SetBoot.{newRecord, newState, placedAt, pointed, setListed, setBoot};
 use crate::Completion;
 use crate::Examined;
 use crate::Reply;
 use crate::SEQUENCE_TOO_HIGH;
 use crate::UNCONFIRMED;
-use crate::lending::read_both;
-use crate::lending::rewrite_at;
 use crate::testing::accept_slot;
 use crate::testing::examine;
 use crate::testing::refusal;
@@ -25,6 +18,8 @@ use otadata::State;
 use otadata::make;
 use partitions::Checked;
 use sectors::Holder;
+use sectors::read_both;
+use sectors::rewrite_at;
 use slot_records::Placement;
 use slot_records::active_naming;
 use slot_records::place_new;
@@ -62,8 +57,7 @@ fn set_listed(
     slot: Slot,
     n: u32,
 ) -> Reply
-    requires { ⌜ length (now otadata) ≡ 8192 ⌝ }
-    ensures { λ r. ⌜ outcome r (now (otadata .exit)) ≡ afterImage settings (now (otadata .entry)) (examined (now (list .entry)) (now (flash .entry)) settings slot) (pointed n (slot .0) settings (now (otadata .entry))) ⌝ }
+    ensures { λ r. ⌜ outcome r (now (otadata .exit)) ≡ setListed (now (list .entry)) (now (flash .entry)) (now (otadata .entry)) settings slot n ⌝ }
 {
     let tested = examine(list, flash, settings, slot);
     match tested {
@@ -74,7 +68,6 @@ fn set_listed(
 
 // Test 11, and what follows it, with n slots. Nothing is written where the active record names the slot already.
 fn point_to(otadata: &mut [u8], settings: Settings, slot: Slot, n: u32) -> Reply
-    requires { ⌜ length (now otadata) ≡ 8192 ⌝ }
     ensures { λ r. ⌜ outcome r (now (otadata .exit)) ≡ pointed n (slot .0) settings (now (otadata .entry)) ⌝ }
 {
     let readings = read_both(otadata);
@@ -90,13 +83,12 @@ fn point_to(otadata: &mut [u8], settings: Settings, slot: Slot, n: u32) -> Reply
 
 // Test 7, then the rewrite with the new record.
 fn write_new(otadata: &mut [u8], settings: Settings, place: Placement) -> Reply
-    requires { ⌜ (length (now otadata) ≡ 8192) × ((k : ℕ) (q : Sequence) → place ≡ At k q → k < 2) ⌝ }
     ensures { λ r. ⌜ outcome r (now (otadata .exit)) ≡ placedAt settings (now (otadata .entry)) place ⌝ }
 {
     match place {
         Placement::Nowhere => Reply::Refused(refusal(settings, SEQUENCE_TOO_HIGH)),
         Placement::At(k, sequence) => {
-            rewrite_at(otadata, k, new_record(settings, sequence));
+            rewrite_at(otadata, k, &new_record(settings, sequence));
             unchanged(settings)
         }
     }

@@ -12,6 +12,7 @@ use Rattle.otadata.specs.declared.State.the-variants.{Invalid}
 use Rattle.otadata.proofs.Booleans.{true-is-not-false}
 use Rattle.sectors.specs.declared.Holder.{Holder}
 use Rattle.sectors.specs.declared.Holder.the-variants.{None, Sector}
+use Rattle.partitions.specs.declared.Listing.{Listing}
 use Rattle.partitions.specs.declared.Checked.{Checked}
 use Rattle.partitions.specs.declared.Checked.the-variants.{Refused as NotAccepted, Accepted}
 use Rattle.partitions.specs.declared.App.the-variants.{OtaSlot}
@@ -25,8 +26,8 @@ use Rattle.boot.specs.declared.Start.{Start}
 use Rattle.boot.specs.declared.Refusal.{Refusal as BootRefusal}
 use Rattle.boot.specs.declared.Reply.{Reply as BootReply}
 use Rattle.boot.specs.declared.Reply.the-variants.{Refused as BootRefused, Starts}
-use Rattle.boot.specs.Boot.{readingsOf, withState, boot, Accepts}
-use Rattle.boot.proofs.TwoSectors.{with-state-size}
+use Rattle.boot.specs.Boot.{boot, Accepts}
+use Rattle.sectors.specs.Sectors.{readingsOf, withState}
 use Rattle.boot_laws.proofs.Laws.{acceptance-law}
 use Rattle.boot_laws.specs.Laws.{AcceptanceLaw}
 use Rattle.slot_records.specs.declared.Placement.{Placement}
@@ -40,11 +41,12 @@ use Rattle.update.specs.declared.Reply.the-variants.{Refused, Done}
 use Rattle.update.specs.declared.Examined.{Examined}
 use Rattle.update.specs.declared.Examined.the-variants.{Unfit, Fit}
 use Rattle.update.specs.Replies.{refusal, imageRefusal, done, Outcome, outcome}
-use Rattle.update.specs.Tests.{acceptedSlot, held, examined, unconfirmed}
-use Rattle.update.specs.SetBoot.{placedAt, unlessNamed, pointed, afterImage, afterTests, setBoot}
-use Rattle.update.specs.Marks.{validAfter, validNamed, validTested, markValid, choosesNothing, invalidNamed, invalidTested, markInvalid}
+use Rattle.update.specs.Tests.{acceptedSlot, held, examined, unconfirmed, afterTests, afterImage, afterNaming}
+use Rattle.update.specs.SetBoot.{placedAt, unlessNamed, pointed, setBoot}
+use Rattle.update.specs.Marks.{markValid, choosesNothing, markInvalid}
 use Rattle.update.proofs.MarkLaws.{otadata-size, boot-accepts}
 use Rattle.update_laws.specs.Laws.{RefusalKeeps, RefusalLaw, RegisterLaw, FallbackLaw}
+use Rattle.sectors.proofs.TwoSectors.{with-state-size}
 
 -- ---- how a call ends
 
@@ -88,6 +90,24 @@ examined-register : (list flash : List ℕ) (settings : Settings) (s : Slot) →
 unfolding examined
 examined-register list flash settings s = held-register settings (check (image list flash (OtaSlot s)) (settings .chip))
 
+-- ---- a test, then the rest of the call
+
+module _ {o : List ℕ} {settings : Settings} {Claim : ℕ → List ℕ → Type 0} where
+  tests-end : (c : Checked) (rest : ℕ → Outcome) → ((listing : Listing) → c ≡ Accepted listing → Ends o settings Claim (rest (listing .slots)))
+      → Ends o settings Claim (afterTests settings o c rest)
+  tests-end (NotAccepted number) rest ends = refuses refl
+  tests-end (Accepted listing) rest ends = ends listing refl
+
+  image-ends : (t : Examined) → KeepsRegister settings t → (rest : Facts → Outcome) → ((facts : Facts) → Ends o settings Claim (rest facts))
+      → Ends o settings Claim (afterImage o t rest)
+  image-ends (Unfit why) given rest ends = refuses (given why refl)
+  image-ends (Fit facts) given rest ends = ends facts
+
+  naming-ends : (h : Holder) (rest : ℕ → Outcome) → ((k : ℕ) → h ≡ Sector k → Ends o settings Claim (rest k))
+      → Ends o settings Claim (afterNaming settings o h rest)
+  naming-ends None rest ends = refuses refl
+  naming-ends (Sector k) rest ends = ends k refl
+
 -- ---- set-boot
 
 abbrev AsGiven : Settings → ℕ → List ℕ → Type 0
@@ -112,18 +132,12 @@ module _ (o : List ℕ) (settings : Settings) where
       (λ (e : unconfirmed settings (readingsOf o) ≡ false).
       named-ends (activeNaming n s (readingsOf o)) (placed-ends (placement n s (readingsOf o))))
 
-  image-ends : (t : Examined) → KeepsRegister settings t → {rest : Outcome} → EndsSet rest → EndsSet (afterImage settings o t rest)
-  image-ends (Unfit why) given rest = refuses (given why refl)
-  image-ends (Fit facts) given rest = rest
-
-  tests-end : (list flash : List ℕ) (s : Slot) (c : Checked) → EndsSet (afterTests list flash o settings s c)
-  tests-end list flash s (NotAccepted number) = refuses refl
-  tests-end list flash s (Accepted listing) =
-      image-ends (examined list flash settings s) (examined-register list flash settings s) (pointed-ends (listing .slots) (s .0))
-
   set-ends : (list flash : List ℕ) (s : Slot) → EndsSet (setBoot list flash o settings s)
   unfolding setBoot
-  set-ends list flash s = tests-end list flash s (acceptedSlot list (length flash) (length o) settings (s .0))
+  set-ends list flash s =
+      tests-end (acceptedSlot list (length flash) (length o) settings (s .0)) _
+      (λ (listing : Listing) e.
+      image-ends (examined list flash settings s) (examined-register list flash settings s) _ (λ (facts : Facts). pointed-ends (listing .slots) (s .0)))
 
 -- ---- mark-valid
 
@@ -134,21 +148,14 @@ module _ (list flash o : List ℕ) (settings : Settings) (s : Slot) where
   abbrev EndsValid : Outcome → Type 0
   EndsValid = Ends o settings AnyRegister
 
-  after-ends : (k : ℕ) (t : Examined) → KeepsRegister settings t → EndsValid (validAfter settings k o t)
-  after-ends k (Unfit why) given = refuses (given why refl)
-  after-ends k (Fit facts) given = completes tt
-
-  valid-named-ends : (h : Holder) → EndsValid (validNamed list flash settings s o h)
-  valid-named-ends None = refuses refl
-  valid-named-ends (Sector k) = after-ends k (examined list flash settings s) (examined-register list flash settings s)
-
-  valid-tests-end : (c : Checked) → EndsValid (validTested list flash o settings s c)
-  valid-tests-end (NotAccepted number) = refuses refl
-  valid-tests-end (Accepted listing) = valid-named-ends (activeNaming (listing .slots) (s .0) (readingsOf o))
-
   valid-ends : EndsValid (markValid list flash o settings s)
   unfolding markValid
-  valid-ends = valid-tests-end (acceptedSlot list (length flash) (length o) settings (s .0))
+  valid-ends =
+      tests-end (acceptedSlot list (length flash) (length o) settings (s .0)) _
+      (λ (listing : Listing) e.
+      naming-ends (activeNaming (listing .slots) (s .0) (readingsOf o)) _
+      (λ (k : ℕ) named.
+      image-ends (examined list flash settings s) (examined-register list flash settings s) _ (λ (facts : Facts). completes tt)))
 
 -- ---- mark-invalid
 
@@ -162,27 +169,24 @@ module _ (list flash o : List ℕ) (settings : Settings) (s : Slot) where
   abbrev EndsInvalid : Outcome → Type 0
   EndsInvalid = Ends o settings (LeavesApp list flash settings)
 
-  invalid-named-ends : (h : Holder) → ((k : ℕ) → h ≡ Sector k → Accepts list (length flash) (length (withState Invalid k o)) settings)
-      → EndsInvalid (invalidNamed list flash settings o h)
-  invalid-named-ends None accepted = refuses refl
-  invalid-named-ends (Sector k) accepted =
-      under (choosesNothing (boot list flash (withState Invalid k o) settings .reply)) (refuses refl)
-      (λ (e : choosesNothing (boot list flash (withState Invalid k o) settings .reply) ≡ false).
-      completes (record { register-given = refl; chooses = e; accepts = accepted k refl }))
-
-  invalid-tests-end : (c : Checked) → acceptedSlot list (length flash) (length o) settings (s .0) ≡ c → EndsInvalid (invalidTested list flash o settings s c)
-  invalid-tests-end (NotAccepted number) is = refuses refl
-  invalid-tests-end (Accepted listing) is =
-      let size = otadata-size list flash o settings (s .0) _ (sym is) listing refl in
-      let accepts = boot-accepts list flash o settings (s .0) _ (sym is) listing refl in
-      invalid-named-ends (activeNaming (listing .slots) (s .0) (readingsOf o))
-      (λ (k : ℕ) (e : activeNaming (listing .slots) (s .0) (readingsOf o) ≡ Sector k).
-      let left = with-state-size Invalid k o (naming-below-two (listing .slots) (s .0) (readingsOf o) k e) size in
-      subst (λ (n : ℕ). Accepts list (length flash) n settings) (sym left) accepts)
+  left-accepted : (listing : Listing) → acceptedSlot list (length flash) (length o) settings (s .0) ≡ Accepted listing
+      → (k : ℕ) → activeNaming (listing .slots) (s .0) (readingsOf o) ≡ Sector k
+      → Accepts list (length flash) (length (withState Invalid k o)) settings
+  left-accepted listing is k named =
+      let size = otadata-size list flash o settings (s .0) _ refl listing is in
+      let left = with-state-size Invalid k o (naming-below-two (listing .slots) (s .0) (readingsOf o) k named) size in
+      subst (λ (n : ℕ). Accepts list (length flash) n settings) (sym left) (boot-accepts list flash o settings (s .0) _ refl listing is)
 
   invalid-ends : EndsInvalid (markInvalid list flash o settings s)
   unfolding markInvalid
-  invalid-ends = invalid-tests-end (acceptedSlot list (length flash) (length o) settings (s .0)) refl
+  invalid-ends =
+      tests-end (acceptedSlot list (length flash) (length o) settings (s .0)) _
+      (λ (listing : Listing) (accepted : acceptedSlot list (length flash) (length o) settings (s .0) ≡ Accepted listing).
+      naming-ends (activeNaming (listing .slots) (s .0) (readingsOf o)) _
+      (λ (k : ℕ) (named : activeNaming (listing .slots) (s .0) (readingsOf o) ≡ Sector k).
+      under (choosesNothing (boot list flash (withState Invalid k o) settings .reply)) (refuses refl)
+      (λ (e : choosesNothing (boot list flash (withState Invalid k o) settings .reply) ≡ false).
+      completes (record { register-given = refl; chooses = e; accepts = left-accepted listing accepted k named }))))
 
 -- ---- the laws
 

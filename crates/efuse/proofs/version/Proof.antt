@@ -5,7 +5,7 @@ use Rattle.efuse.proofs.version.Statement.{statement}
 use Rattle.efuse.proofs.version.Tie as tie
 
 returns : tie.Need-returns
-returns c = ones-in 32 (c .args .register) (c .fits .register .fits)
+returns c = search ones-in
 
 pub version-spec : {M : Type 1} → statement M
 version-spec = tie.close (tie.spec returns)

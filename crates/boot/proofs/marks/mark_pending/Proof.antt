@@ -1,7 +1,6 @@
 -- `boot::marks::mark_pending` meets its contract.
 -- Assumes nothing.
 use native.Mathlib.Omega.{arith}
-use denote.Ref.{now}
 use Rattle.boot.proofs.Marking.{through-none, not-asked, not-new, is-pending}
 use borrow.Author.Needs.{needs}
 use Rattle.boot.proofs.marks.mark_pending.Statement.{statement}
@@ -35,32 +34,16 @@ in-state-requires : tie.Need-in-state-requires
 in-state-requires c κs = search needs
 
 returns-3 : tie.Need-returns-3
-returns-3 c =
-    let tested = c .before in
-    let asked = tested .before .before in
-    let told = asked .before .before .before in
-    let start = told .before .before .before in
-    not-new (start .args .settings) (start .args .through) (now (start .args .otadata)) _ (told .through .given .1) (asked .if1 .left)
-    (start .pre .0 _ (told .through .given .1)) _ (start .pre .2) _ _ (tested .in-state .ensures) (c .if2 .taken)
+returns-3 c = search not-new
 
 restate-at-requires : tie.Need-restate-at-requires
-restate-at-requires c κs =
-    let told = c .before .before .before .before .before .before .before in
-    let start = told .before .before .before in
-    (start .pre .0 _ (told .through .given .1), start .pre .1, start .pre .2)
+restate-at-requires c κs = search needs
 
 same-length : tie.Need-same-length
 same-length c = search needs
 
 returns-4 : tie.Need-returns-4
-returns-4 c =
-    let written = c .before .before in
-    let new = written .before .before in
-    let asked = new .before .before .before in
-    let told = asked .before .before .before in
-    let start = told .before .before .before in
-    is-pending (start .args .settings) (start .args .through) (now (start .args .otadata)) _ (told .through .given .1) (asked .if1 .left)
-    (start .pre .0 _ (told .through .given .1)) _ (start .pre .2) _ _ (new .before .in-state .ensures) (new .if2 .left) _ (written .restate-at .ensures .0)
+returns-4 c = search is-pending
 
 pub mark-pending-spec : {M : Type 1} → statement M
 mark-pending-spec =

@@ -1,6 +1,5 @@
 -- `boot::starting::start` meets its contract: the four steps, one after the other.
 -- Assumes nothing.
-use denote.Ref.{now}
 use Rattle.boot.proofs.Replies.{one-of-two, marks-keep-size, steps}
 use borrow.Author.Needs.{needs}
 use Rattle.boot.proofs.starting.start.Statement.{statement}
@@ -16,14 +15,7 @@ used-sector-requires : tie.Need-used-sector-requires
 used-sector-requires c κs = search needs
 
 mark-pending-requires : tie.Need-mark-pending-requires
-mark-pending-requires c κs =
-    let chose = c .before .before in
-    let marks = chose .before .before .before in
-    let start = marks .before .before .before .before .before in (
-      one-of-two _ _ _ _ _ (chose .choose .ensures) _ (c .used-sector .ensures),
-      marks-keep-size _ _ _ (start .pre) (marks .mark-aborted .ensures .0),
-      marks .mark-aborted .ensures .1,
-    )
+mark-pending-requires c κs = search (one-of-two, marks-keep-size)
 
 reply-to-requires : tie.Need-reply-to-requires
 reply-to-requires c κs = search needs
@@ -32,13 +24,7 @@ same-length : tie.Need-same-length
 same-length c = search needs
 
 returns : tie.Need-returns
-returns c =
-    let awaits = c .before .before .before in
-    let chose = awaits .before .before .before in
-    let marks = chose .before .before .before in
-    let a = marks .before .before .before .before .before .args in
-    steps (now (a .list)) (now (a .flash)) (now (a .otadata)) (a .settings) _ _ (marks .mark-aborted .ensures)
-    _ (chose .choose .ensures) _ (awaits .before .used-sector .ensures) _ (awaits .mark-pending .ensures) _ (c .reply-to .ensures)
+returns c = search steps
 
 pub start-spec : {M : Type 1} → statement M
 start-spec =

@@ -1,7 +1,5 @@
 -- `boot_choice::choosing::passes` meets its contract: the image is the app's part of the flash, and its version is held to the eFuse version.
 -- Assumes nothing.
-use denote.Ref.{now}
-use Rattle.sectors.specs.Sectors.{part}
 use Rattle.boot_choice.proofs.Tries.{image-refused, version-too-old, app-passes}
 use borrow.Author.Needs.{needs}
 use Rattle.boot_choice.proofs.choosing.passes.Statement.{statement}
@@ -20,35 +18,16 @@ enum-told : tie.Need-enum-told
 enum-told c = search needs
 
 returns : tie.Need-returns
-returns c =
-    let checked = c .before .before in
-    let handed = checked .before in
-    let a = handed .before .before .before .args in
-    image-refused (now (a .list)) (part (a .flash)) (a .settings) (a .app) (part (handed .app-part .result)) (handed .app-part .ensures)
-    (checked .check .result) (checked .check .ensures) _ (c .enum-told .given .1)
+returns c = search image-refused
 
 too-old-requires : tie.Need-too-old-requires
 too-old-requires c κs = search needs
 
 returns-2 : tie.Need-returns-2
-returns-2 c =
-    let tested = c .before in
-    let accepted = tested .before .before in
-    let checked = accepted .before .before in
-    let handed = checked .before in
-    let a = handed .before .before .before .args in
-    version-too-old (now (a .list)) (part (a .flash)) (a .settings) (a .app) (part (handed .app-part .result)) (handed .app-part .ensures)
-    (checked .check .result) (checked .check .ensures) _ (accepted .checked .given .1) (tested .too-old .result) (tested .too-old .ensures) (c .if1 .taken)
+returns-2 c = search version-too-old
 
 returns-3 : tie.Need-returns-3
-returns-3 c =
-    let tested = c .before in
-    let accepted = tested .before .before in
-    let checked = accepted .before .before in
-    let handed = checked .before in
-    let a = handed .before .before .before .args in
-    app-passes (now (a .list)) (part (a .flash)) (a .settings) (a .app) (part (handed .app-part .result)) (handed .app-part .ensures)
-    (checked .check .result) (checked .check .ensures) _ (accepted .checked .given .1) (tested .too-old .result) (tested .too-old .ensures) (c .if1 .left)
+returns-3 c = search app-passes
 
 pub passes-spec : {M : Type 1} → statement M
 passes-spec =

@@ -1,6 +1,5 @@
 -- `c_api::node::ota_boot` meets its contract.
 -- Assumes nothing.
-use denote.Ref.{now}
 use borrow.Author.Needs.{needs}
 use Rattle.c_api.proofs.Starts.{one-of-two-sectors, boot-refused, boot-starts}
 use Rattle.c_api.proofs.node.ota_boot.Statement.{statement}
@@ -19,35 +18,19 @@ enum-known-reply-2 : tie.Need-enum-known-reply-2
 enum-known-reply-2 c = search needs
 
 started-requires : tie.Need-started-requires
-started-requires c κs =
-    let told = c .before in
-    let call = told .before .before .before .before in
-    let made = call .before in
-    let a = made .before .before .before .before .before .args in
-    one-of-two-sectors (now (a .list)) (now (a .flash)) (now (a .otadata)) _ _ _ (call .boot .ensures) _ (told .reply2 .given .1)
+started-requires c κs = search one-of-two-sectors
 
 same-length : tie.Need-same-length
 same-length c = search needs
 
 returns : tie.Need-returns
-returns c =
-    let told = c .before .before in
-    let call = told .before .before .before .before in
-    let made = call .before in
-    let a = made .before .before .before .before .before .args in
-    boot-refused (now (a .list)) (now (a .flash)) (now (a .otadata)) _ _ _ (call .boot .ensures) _ (made .settings-of .ensures) _ (told .reply .given .1)
+returns c = search boot-refused
 
 same-length-2 : tie.Need-same-length-2
 same-length-2 c = search needs
 
 returns-2 : tie.Need-returns-2
-returns-2 c =
-    let told = c .before .before in
-    let call = told .before .before .before .before in
-    let made = call .before in
-    let a = made .before .before .before .before .before .args in
-    boot-starts (now (a .list)) (now (a .flash)) (now (a .otadata)) _ _ _ (call .boot .ensures) _ (made .settings-of .ensures) _ (told .reply2 .given .1)
-    _ (c .started .ensures)
+returns-2 c = search boot-starts
 
 pub ota-boot-spec : {M : Type 1} → statement M
 ota-boot-spec =

@@ -1,6 +1,5 @@
 -- `c_api::updates::ota_mark_invalid` meets its contract.
 -- Assumes nothing.
-use denote.Ref.{now}
 use borrow.Author.Needs.{needs}
 use Rattle.c_api.proofs.Replies.{invalid-refused, invalid-done}
 use Rattle.c_api.proofs.updates.ota_mark_invalid.Statement.{statement}
@@ -22,25 +21,13 @@ same-length : tie.Need-same-length
 same-length c = search needs
 
 returns : tie.Need-returns
-returns c =
-    let told = c .before in
-    let call = told .before .before .before .before in
-    let made = call .before in
-    let a = made .before .before .before .before .before .args in
-    invalid-refused (now (a .list)) (now (a .flash)) (now (a .otadata)) _ _ _ _ _ (made .settings-of .ensures) (call .mark-invalid .ensures)
-    _ (told .reply .given .1)
+returns c = search invalid-refused
 
 same-length-2 : tie.Need-same-length-2
 same-length-2 c = search needs
 
 returns-2 : tie.Need-returns-2
-returns-2 c =
-    let told = c in
-    let call = told .before .before .before .before in
-    let made = call .before in
-    let a = made .before .before .before .before .before .args in
-    invalid-done (now (a .list)) (now (a .flash)) (now (a .otadata)) _ _ _ _ _ (made .settings-of .ensures) (call .mark-invalid .ensures)
-    _ (told .enum-told .given .1)
+returns-2 c = search invalid-done
 
 pub ota-mark-invalid-spec : {M : Type 1} → statement M
 ota-mark-invalid-spec =

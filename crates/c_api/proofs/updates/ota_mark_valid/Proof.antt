@@ -1,6 +1,5 @@
 -- `c_api::updates::ota_mark_valid` meets its contract.
 -- Assumes nothing.
-use denote.Ref.{now}
 use borrow.Author.Needs.{needs}
 use Rattle.c_api.proofs.Replies.{valid-refused, valid-done}
 use Rattle.c_api.proofs.updates.ota_mark_valid.Statement.{statement}
@@ -31,25 +30,13 @@ same-length : tie.Need-same-length
 same-length c = search needs
 
 returns : tie.Need-returns
-returns c =
-    let told = c .before .before .before .before in
-    let call = told .before .before .before .before in
-    let made = call .before in
-    let a = made .before .before .before .before .before .args in
-    valid-refused (now (a .list)) (now (a .flash)) (now (a .otadata)) _ _ _ _ _ (made .settings-of .ensures) (call .mark-valid .ensures)
-    _ (told .reply .given .1)
+returns c = search valid-refused
 
 same-length-2 : tie.Need-same-length-2
 same-length-2 c = search needs
 
 returns-2 : tie.Need-returns-2
-returns-2 c =
-    let told = c .before .before .before in
-    let call = told .before .before .before .before in
-    let made = call .before in
-    let a = made .before .before .before .before .before .args in
-    valid-done (now (a .list)) (now (a .flash)) (now (a .otadata)) _ _ _ _ _ (made .settings-of .ensures) (call .mark-valid .ensures)
-    _ (told .reply2 .given .1)
+returns-2 c = search valid-done
 
 pub ota-mark-valid-spec : {M : Type 1} → statement M
 ota-mark-valid-spec =

@@ -1,7 +1,5 @@
 -- `c_api::updates::ota_next_slot` meets its contract.
 -- Assumes nothing.
-use lib.ListN.{length}
-use denote.Ref.{now}
 use borrow.Author.Needs.{needs}
 use Rattle.c_api.proofs.Replies.{next-refused, next-found}
 use Rattle.c_api.proofs.updates.ota_next_slot.Statement.{statement}
@@ -23,24 +21,10 @@ enum-known-next-2 : tie.Need-enum-known-next-2
 enum-known-next-2 c = search needs
 
 returns : tie.Need-returns
-returns c =
-    let told = c .before .before in
-    let call = told .before .before in
-    let runs = call .before in
-    let made = runs .before in
-    let a = made .before .before .before .before .args in
-    next-refused (now (a .list)) (length (now (a .flash))) (now (a .otadata)) _ _ _ (call .next-slot .ensures) _ (made .settings-of .ensures)
-    _ (runs .running-app .ensures) _ (told .next .given .1)
+returns c = search next-refused
 
 returns-2 : tie.Need-returns-2
-returns-2 c =
-    let told = c .before .before in
-    let call = told .before .before in
-    let runs = call .before in
-    let made = runs .before in
-    let a = made .before .before .before .before .args in
-    next-found (now (a .list)) (length (now (a .flash))) (now (a .otadata)) _ _ _ (call .next-slot .ensures) _ (made .settings-of .ensures)
-    _ (runs .running-app .ensures) _ (told .next2 .given .1)
+returns-2 c = search next-found
 
 pub ota-next-slot-spec : {M : Type 1} → statement M
 ota-next-slot-spec =

@@ -13,28 +13,19 @@ byte-of-requires : tie.Need-byte-of-requires
 byte-of-requires c κs = search needs
 
 returns : tie.Need-returns
-returns c =
-    let a = c .before .before .args in
-    let size : length (a .t2) ≡ 20 = search needs in
-    c .byte-of .ensures ∙ sym (sequence-byte (a .sequence .0) (a .t2) (a .state) size (a .i) (search needs))
+returns c = search sequence-byte
 
 array-read-result : tie.Need-array-read-result
 array-read-result c = search needs
 
 returns-2 : tie.Need-returns-2
-returns-2 c =
-    let a = c .before .before .args in
-    let size : length (a .t2) ≡ 20 = search needs in
-    sym (label-byte (a .sequence .0) (a .t2) (a .state) size (a .i) (search needs) (search needs))
+returns-2 c = search label-byte
 
 byte-of-requires-2 : tie.Need-byte-of-requires-2
 byte-of-requires-2 c κs = search needs
 
 returns-3 : tie.Need-returns-3
-returns-3 c =
-    let a = c .before .before .before .before .args in
-    let size : length (a .t2) ≡ 20 = search needs in
-    c .byte-of2 .ensures ∙ sym (state-byte (a .sequence .0) (a .t2) (a .state) size (a .i) (search needs) (search needs))
+returns-3 c = search state-byte
 
 byte-of-requires-3 : tie.Need-byte-of-requires-3
 byte-of-requires-3 c κs = search needs

@@ -28,7 +28,7 @@ loop-holds c =
     (search needs, c .check-word .ensures, filled-none _ _ (sym (record-length (a .sequence .0) (a .label) (a .state) size)))
 
 field-byte-requires : tie.Need-field-byte-requires Inv-loop μ-loop
-field-byte-requires c κs = (search needs, c .before .loop .inv .1)
+field-byte-requires c κs = search needs
 
 array-write-rec : tie.Need-array-write-rec Inv-loop μ-loop
 array-write-rec c = search needs

@@ -1,7 +1,6 @@
 -- `otadata::records::read` meets its contract: a good record has 32 bytes, and its fields are read from them.
 -- Assumes nothing.
 use borrow.Author.Needs.{needs}
-use native.Mathlib.Omega.{arith}
 use Rattle.otadata.proofs.Making.{good-size, nothing-read, record-read}
 use Rattle.otadata.proofs.records.read.Statement.{statement}
 use Rattle.otadata.proofs.records.read.Tie as tie
@@ -16,10 +15,10 @@ returns : tie.Need-returns
 returns c = search nothing-read
 
 word-at-requires : tie.Need-word-at-requires
-word-at-requires c κs = omega (arith, good-size _ _ (c .before .good2 .ensures) (c .if1 .left))
+word-at-requires c κs = search needs
 
 word-at-requires-2 : tie.Need-word-at-requires-2
-word-at-requires-2 c κs = omega (arith, good-size _ _ (c .before .before .good2 .ensures) (c .before .if1 .left))
+word-at-requires-2 c κs = search needs
 
 state-of-requires : tie.Need-state-of-requires
 state-of-requires c κs = search needs

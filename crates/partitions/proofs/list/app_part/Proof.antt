@@ -54,15 +54,7 @@ part-result-start c = omega arith
 is-part :
     (c : tie.After-end-at) → (let a = c .before .before .before .before .before .before .before .before .before .args in
     IsPart (now (a .list)) (part (a .flash)) (a .app) (c .before .offset-at .result) (c .end-at .result))
-is-part c =
-    let offset = c .before in
-    let found = offset .before .before in
-    let named = found .before in
-    let call = named .before .before .right in
-    let a = named .before .before .before .before .before .args in
-    of-entry (now (a .list)) (part (a .flash)) (a .app) (call .result) (call .ensures) (named .before .if1 .left)
-    (named .subtype-of .result) (named .subtype-of .ensures) (found .entry-of .result) (found .entry-of .ensures) (omega arith)
-    (offset .offset-at .result) (c .end-at .result) (offset .offset-at .ensures) (c .end-at .ensures)
+is-part c = search of-entry
 
 part-result-end : tie.Need-part-result-end
 part-result-end c = is-part c .within

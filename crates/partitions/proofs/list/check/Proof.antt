@@ -3,7 +3,6 @@
 use native.Mathlib.Omega.{arith}
 use denote.Ref.{now}
 use borrow.Author.Needs.{needs}
-use Rattle.partitions.specs.PartitionList.{factorySubtype}
 use Rattle.partitions.proofs.Listed.{listed-le}
 use Rattle.partitions.proofs.Answers.{refused, few-entries, accepted}
 use Rattle.partitions.proofs.list.check.Statement.{statement}
@@ -13,19 +12,13 @@ right-requires : tie.Need-right-requires
 right-requires c κs = search needs
 
 returns : tie.Need-returns
-returns c =
-    let call = c .before .right in
-    let a = c .before .before .before .args in
-    refused (now (a .list)) (a .capacity) (call .result) (call .ensures) (c .if1 .taken)
+returns c = search refused
 
 times-listed-requires : tie.Need-times-listed-requires
 times-listed-requires c κs = search needs
 
 sub-slots : tie.Need-sub-slots
-sub-slots c =
-    let counted = c .times-listed in
-    let a = c .before .before .before .before .args in
-    omega (arith, listed-le (now (a .list)) factorySubtype (counted .result) (counted .ensures))
+sub-slots c = search listed-le
 
 cast-slots : tie.Need-cast-slots
 cast-slots c =
@@ -35,12 +28,7 @@ cast-slots c =
     omega (arith, few-entries (now (a .list)) (a .capacity) (call .result) (call .ensures) (tested .if1 .left))
 
 returns-2 : tie.Need-returns-2
-returns-2 c =
-    let tested = c .before in
-    let call = tested .before .right in
-    let counted = c .times-listed in
-    let a = tested .before .before .before .args in
-    accepted (now (a .list)) (a .capacity) (call .result) (call .ensures) (tested .if1 .left) (counted .result) (counted .ensures)
+returns-2 c = search accepted
 
 pub check-spec : {M : Type 1} → statement M
 check-spec =

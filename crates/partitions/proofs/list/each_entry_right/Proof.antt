@@ -23,12 +23,7 @@ entry-right-requires : tie.Need-entry-right-requires Inv-loop μ-loop
 entry-right-requires c κs = omega arith
 
 returns : tie.Need-returns Inv-loop μ-loop
-returns c =
-    let turn = c .before in
-    let at = turn .before .before .loop in
-    let a = turn .before .before .before .before .args in
-    let call = turn .entry-right in
-    every-stops (rightAt (now (a .list)) (a .n) (a .capacity)) _ (at .i) (call .result) (call .ensures) (c .if1 .taken) (turn .before .loop-test .taken)
+returns c = search every-stops
 
 add-i : tie.Need-add-i Inv-loop μ-loop
 add-i c = omega arith

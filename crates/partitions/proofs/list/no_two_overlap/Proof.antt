@@ -23,12 +23,7 @@ no-overlap-before-requires : tie.Need-no-overlap-before-requires Inv-loop μ-loo
 no-overlap-before-requires c κs = omega arith
 
 returns : tie.Need-returns Inv-loop μ-loop
-returns c =
-    let turn = c .before in
-    let at = turn .before .before .loop in
-    let a = turn .before .before .before .before .args in
-    let call = turn .no-overlap-before in
-    every-stops (noOverlapBefore (now (a .list))) _ (at .j) (call .result) (call .ensures) (c .if1 .taken) (turn .before .loop-test .taken)
+returns c = search every-stops
 
 add-j : tie.Need-add-j Inv-loop μ-loop
 add-j c = omega arith

@@ -14,7 +14,7 @@ add-result : tie.Need-add-result
 add-result c = search needs
 
 returns : tie.Need-returns
-returns c = next-absent _ _ _ (omega arith)
+returns c = search next-absent
 
 rem-first : tie.Need-rem-first
 rem-first c = search needs
@@ -26,7 +26,7 @@ add-result-2 : tie.Need-add-result-2
 add-result-2 c = search needs
 
 returns-2 : tie.Need-returns-2
-returns-2 c = next-up _ _ _ (omega arith) (omega arith)
+returns-2 c = search next-up
 
 sub-result : tie.Need-sub-result
 sub-result c = omega (arith, mod-lt (c .before .before .before .before .args .q) {m = c .before .before .before .before .args .n} (omega arith))
@@ -41,7 +41,7 @@ add-result-4 : tie.Need-add-result-4
 add-result-4 c = search needs
 
 returns-3 : tie.Need-returns-3
-returns-3 c = next-around _ _ _ (omega arith) (omega arith)
+returns-3 c = search next-around
 
 pub next-sequence-spec : {M : Type 1} → statement M
 next-sequence-spec =

@@ -1,6 +1,7 @@
 -- `update::marking::confirm_fit` meets its contract.
 -- Assumes nothing.
-use Rattle.update.proofs.MarkLaws.{valid-unfit, valid-fit}
+use Rattle.update.proofs.TestLaws.{image-refused}
+use Rattle.update.proofs.MarkLaws.{valid-fit}
 use borrow.Author.Needs.{needs}
 use Rattle.update.proofs.marking.confirm_fit.Statement.{statement}
 use Rattle.update.proofs.marking.confirm_fit.Tie as tie
@@ -18,7 +19,7 @@ register-raised-requires : tie.Need-register-raised-requires
 register-raised-requires c κs = search needs
 
 returns : tie.Need-returns
-returns c = search valid-unfit
+returns c = search image-refused
 
 same-length : tie.Need-same-length
 same-length c = search needs

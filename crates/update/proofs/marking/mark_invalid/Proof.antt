@@ -1,7 +1,8 @@
 -- `update::marking::mark_invalid` meets its contract.
 -- Assumes nothing.
-use denote.Ref.{now}
-use Rattle.update.proofs.MarkLaws.{otadata-size, boot-accepts, invalid-refused, invalid-accepted}
+use Rattle.update.proofs.TestLaws.{tests-refused, tests-accepted}
+use Rattle.update.proofs.MarkLaws.{otadata-size, boot-accepts}
+use Rattle.update.specs.Marks.{markInvalid}
 use borrow.Author.Needs.{needs}
 use Rattle.update.proofs.marking.mark_invalid.Statement.{statement}
 use Rattle.update.proofs.marking.mark_invalid.Tie as tie
@@ -19,31 +20,18 @@ enum-known-checked-2 : tie.Need-enum-known-checked-2
 enum-known-checked-2 c = search needs
 
 give-up-named-requires : tie.Need-give-up-named-requires
-give-up-named-requires c κs =
-    let told = c .before .before in
-    let accepts = told .before .before in
-    let a = accepts .before .before .before .before .args in
-    (otadata-size (now (a .list)) (now (a .flash)) (now (a .otadata)) (a .settings) (a .running .0) _ (accepts .accept-slot .ensures) _ (told .checked2 .given .1), boot-accepts (now (a .list)) (now (a .flash)) (now (a .otadata)) (a .settings) (a .running .0) _ (accepts .accept-slot .ensures) _ (told .checked2 .given .1))
+give-up-named-requires c κs = search (otadata-size, boot-accepts)
 
 returns : tie.Need-returns
-returns c =
-    let told = c .before .before in
-    let accepts = told .before .before in
-    let a = accepts .before .before .before .before .args in
-    invalid-refused (now (a .list)) (now (a .flash)) (now (a .otadata)) (a .settings) (a .running) _ (accepts .accept-slot .ensures) _ (told .checked .given .1)
-    _ (c .refusal .ensures)
+unfolding markInvalid
+returns c = search tests-refused
 
 same-length : tie.Need-same-length
 same-length c = search needs
 
 returns-2 : tie.Need-returns-2
-returns-2 c =
-    let call = c .before .before in
-    let told = call .before .before .before in
-    let accepts = told .before .before in
-    let a = accepts .before .before .before .before .args in
-    invalid-accepted (now (a .list)) (now (a .flash)) (now (a .otadata)) (a .settings) (a .running) _ (accepts .accept-slot .ensures) _ (told .checked2 .given .1)
-    _ _ (call .give-up-named .ensures)
+unfolding markInvalid
+returns-2 c = search tests-accepted
 
 pub mark-invalid-spec : {M : Type 1} → statement M
 mark-invalid-spec =

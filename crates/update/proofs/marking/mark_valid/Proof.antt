@@ -1,7 +1,7 @@
 -- `update::marking::mark_valid` meets its contract.
 -- Assumes nothing.
-use denote.Ref.{now}
-use Rattle.update.proofs.MarkLaws.{otadata-size, valid-refused, valid-accepted}
+use Rattle.update.proofs.TestLaws.{tests-refused, tests-accepted}
+use Rattle.update.specs.Marks.{markValid}
 use borrow.Author.Needs.{needs}
 use Rattle.update.proofs.marking.mark_valid.Statement.{statement}
 use Rattle.update.proofs.marking.mark_valid.Tie as tie
@@ -19,31 +19,18 @@ enum-known-checked-2 : tie.Need-enum-known-checked-2
 enum-known-checked-2 c = search needs
 
 confirm-named-requires : tie.Need-confirm-named-requires
-confirm-named-requires c κs =
-    let told = c .before .before in
-    let accepts = told .before .before in
-    let a = accepts .before .before .before .before .args in
-    otadata-size (now (a .list)) (now (a .flash)) (now (a .otadata)) (a .settings) (a .running .0) _ (accepts .accept-slot .ensures) _ (told .checked2 .given .1)
+confirm-named-requires c κs = search needs
 
 returns : tie.Need-returns
-returns c =
-    let told = c .before .before in
-    let accepts = told .before .before in
-    let a = accepts .before .before .before .before .args in
-    valid-refused (now (a .list)) (now (a .flash)) (now (a .otadata)) (a .settings) (a .running) _ (accepts .accept-slot .ensures) _ (told .checked .given .1)
-    _ (c .refusal .ensures)
+unfolding markValid
+returns c = search tests-refused
 
 same-length : tie.Need-same-length
 same-length c = search needs
 
 returns-2 : tie.Need-returns-2
-returns-2 c =
-    let call = c .before .before in
-    let told = call .before .before .before in
-    let accepts = told .before .before in
-    let a = accepts .before .before .before .before .args in
-    valid-accepted (now (a .list)) (now (a .flash)) (now (a .otadata)) (a .settings) (a .running) _ (accepts .accept-slot .ensures) _ (told .checked2 .given .1)
-    _ _ (call .confirm-named .ensures)
+unfolding markValid
+returns-2 c = search tests-accepted
 
 pub mark-valid-spec : {M : Type 1} → statement M
 mark-valid-spec =

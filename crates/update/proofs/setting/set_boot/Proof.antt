@@ -1,8 +1,7 @@
 -- `update::setting::set_boot` meets its contract.
 -- Assumes nothing.
-use denote.Ref.{now}
-use Rattle.update.proofs.MarkLaws.{otadata-size}
-use Rattle.update.proofs.SetLaws.{set-refused, set-accepted}
+use Rattle.update.proofs.TestLaws.{tests-refused, tests-accepted}
+use Rattle.update.specs.SetBoot.{setBoot}
 use borrow.Author.Needs.{needs}
 use Rattle.update.proofs.setting.set_boot.Statement.{statement}
 use Rattle.update.proofs.setting.set_boot.Tie as tie
@@ -20,31 +19,18 @@ enum-known-checked-2 : tie.Need-enum-known-checked-2
 enum-known-checked-2 c = search needs
 
 set-listed-requires : tie.Need-set-listed-requires
-set-listed-requires c κs =
-    let told = c .before .before in
-    let accepts = told .before .before in
-    let a = accepts .before .before .before .before .args in
-    otadata-size (now (a .list)) (now (a .flash)) (now (a .otadata)) (a .settings) (a .slot .0) _ (accepts .accept-slot .ensures) _ (told .checked2 .given .1)
+set-listed-requires c κs = search needs
 
 returns : tie.Need-returns
-returns c =
-    let told = c .before .before in
-    let accepts = told .before .before in
-    let a = accepts .before .before .before .before .args in
-    set-refused (now (a .list)) (now (a .flash)) (now (a .otadata)) (a .settings) (a .slot) _ (accepts .accept-slot .ensures) _ (told .checked .given .1)
-    _ (c .refusal .ensures)
+unfolding setBoot
+returns c = search tests-refused
 
 same-length : tie.Need-same-length
 same-length c = search needs
 
 returns-2 : tie.Need-returns-2
-returns-2 c =
-    let call = c .before .before in
-    let told = call .before .before .before in
-    let accepts = told .before .before in
-    let a = accepts .before .before .before .before .args in
-    set-accepted (now (a .list)) (now (a .flash)) (now (a .otadata)) (a .settings) (a .slot) _ (accepts .accept-slot .ensures) _ (told .checked2 .given .1)
-    _ _ (call .set-listed .ensures)
+unfolding setBoot
+returns-2 c = search tests-accepted
 
 pub set-boot-spec : {M : Type 1} → statement M
 set-boot-spec =

@@ -1,7 +1,5 @@
 -- `update::testing::examine` meets its contract.
 -- Assumes nothing.
-use denote.Ref.{now}
-use Rattle.sectors.specs.Sectors.{part}
 use Rattle.update.proofs.TestLaws.{image-unfit, version-unfit, app-fit}
 use borrow.Author.Needs.{needs}
 use Rattle.update.proofs.testing.examine.Statement.{statement}
@@ -23,13 +21,7 @@ refusal-of-requires : tie.Need-refusal-of-requires
 refusal-of-requires c κs = search needs
 
 returns : tie.Need-returns
-returns c =
-    let told = c .before in
-    let checked = told .before .before in
-    let handed = checked .before in
-    let a = handed .before .before .before .args in
-    image-unfit (now (a .list)) (part (a .flash)) (a .settings) (a .slot) (part (handed .app-part .result)) (handed .app-part .ensures)
-    (checked .check .result) (checked .check .ensures) _ (told .enum-told .given .1) _ (c .refusal-of .ensures)
+returns c = search image-unfit
 
 too-old-requires : tie.Need-too-old-requires
 too-old-requires c κs = search needs
@@ -38,25 +30,10 @@ refusal-requires : tie.Need-refusal-requires
 refusal-requires c κs = search needs
 
 returns-2 : tie.Need-returns-2
-returns-2 c =
-    let tested = c .before .before in
-    let accepted = tested .before .before in
-    let checked = accepted .before .before in
-    let handed = checked .before in
-    let a = handed .before .before .before .args in
-    version-unfit (now (a .list)) (part (a .flash)) (a .settings) (a .slot) (part (handed .app-part .result)) (handed .app-part .ensures)
-    (checked .check .result) (checked .check .ensures) _ (accepted .checked .given .1) (tested .too-old .result) (tested .too-old .ensures) (c .before .if1 .taken)
-    _ (c .refusal .ensures)
+returns-2 c = search version-unfit
 
 returns-3 : tie.Need-returns-3
-returns-3 c =
-    let tested = c .before in
-    let accepted = tested .before .before in
-    let checked = accepted .before .before in
-    let handed = checked .before in
-    let a = handed .before .before .before .args in
-    app-fit (now (a .list)) (part (a .flash)) (a .settings) (a .slot) (part (handed .app-part .result)) (handed .app-part .ensures)
-    (checked .check .result) (checked .check .ensures) _ (accepted .checked .given .1) (tested .too-old .result) (tested .too-old .ensures) (c .if1 .left)
+returns-3 c = search app-fit
 
 pub examine-spec : {M : Type 1} → statement M
 examine-spec =

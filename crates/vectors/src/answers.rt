@@ -1,0 +1,73 @@
+// The answers to cases, five numbers each: that of the call, and what it gives.
+use crate::buffers::part;
+use crate::output::sum;
+use crate::output::with_sum;
+use c_api::ota_check_image;
+use c_api::ota_check_list;
+use c_api::ota_check_word;
+use c_api::ota_efuse_raise;
+use c_api::ota_efuse_version;
+use c_api::ota_make_record;
+use otadata::Sequence;
+use otadata::Slot;
+use otadata::Verdict;
+use otadata::word_at;
+use partitions::App;
+use partitions::app_part;
+
+// The answer to a case, with the list and the flash as they are.
+pub(crate) fn answer(case: &[u8], list: &[u32], flash: &[u8]) -> [u32; 5] {
+    let head = word_at(case, 0);
+    let a = word_at(case, 4);
+    let b = word_at(case, 8);
+    let flash = part(flash, 0, word_at(case, 12) as usize);
+    let kind = head % 256;
+    match kind {
+        1 => [ota_check_word(a), 0, 0, 0, 0],
+        2 => [Sequence(a).slot(b).0, 0, 0, 0, 0],
+        3 => [ota_efuse_version(a), 0, 0, 0, 0],
+        4 => [ota_efuse_raise(a, b), 0, 0, 0, 0],
+        5 | 6 => record(case),
+        7 => {
+            let mut out = [0u32; 2];
+            let number = ota_check_list(list, a as usize + 4294967296 * (b as usize), &mut out);
+            [number, out[0], out[1], 0, 0]
+        }
+        8 => of_part(app_part(list, flash, App::OtaSlot(Slot(a)))),
+        9 => of_part(app_part(list, flash, App::Factory)),
+        10 => {
+            let mut out = [0u64; 4];
+            let number = ota_check_image(flash, (head / 65536) as u16, &mut out);
+            [
+                number,
+                (out[0] % 4294967296) as u32,
+                (out[1] % 4294967296) as u32,
+                (out[2] % 4294967296) as u32,
+                (out[3] % 4294967296) as u32,
+            ]
+        }
+        _ => [0; 5],
+    }
+}
+
+// The record of a case: read and made again, or made with its label, another sequence and another state.
+fn record(case: &[u8]) -> [u32; 5] {
+    let reading = otadata::read(part(case, 16, word_at(case, 12) as usize));
+    let verdict = reading.verdict;
+    let label = reading.label;
+    let mut rec = [0u8; 32];
+    let number = match verdict {
+        Verdict::None => 17,
+        Verdict::Good(sequence, state) => if word_at(case, 0) % 256 == 5 {
+            ota_make_record(sequence.0, &label, state.word(), &mut rec)
+        } else {
+            ota_make_record(word_at(case, 4), &label, word_at(case, 8), &mut rec)
+        },
+    };
+    with_sum(number, &rec)
+}
+
+// The length and the sum of a part of the flash.
+fn of_part(found: &[u8]) -> [u32; 5] {
+    [(found.len() % 4294967296) as u32, sum(found), 0, 0, 0]
+}
