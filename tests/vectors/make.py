@@ -35,7 +35,7 @@ def outside(folder):
     boots, rewrites = boot.add_all(cases)
     (folder / "cases").write_bytes(bytes(cases.cases))
     (folder / "lines").write_text("\n".join(cases.lines) + "\n")
-    print(f"vectors outside: {len(cases.cases) // 128} cases, {boots} boots and all cuts of {rewrites} rewrites among them")
+    print(f"vectors from outside: {len(cases.cases) // 128} cases, {boots} boots and all cuts of {rewrites} rewrites among them")
 
 
 if __name__ == "__main__":
