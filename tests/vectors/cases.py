@@ -8,8 +8,8 @@ A case is 128 bytes; numbers are little-endian:
     1  flags: 1 rollback, 2 anti-rollback, 4 lay the two records first
     2  half word: chip id, number of the list's words, or number of the sector
     4  word a, 8  word b, 12  word c
-   16  record of sector 0, 48  record of sector 1, 80  the record lent; or the bytes that are put into the flash; or the list's words, of
-       which those after the 28th are 0
+   16  record of sector 0, 48  record of sector 1, 80  the record lent; or the bytes that are put into the flash; or the list's first 28
+       words: after them the gate's program has zeros, and the other repeats words 24 to 26
   124  start and step of sector 0's or the flash's filler, 126  those of sector 1's
 Byte i of what is filled is the front's, and after it the start, with step 1 plus 7 i + 13 (i / 256) + 29 (i / 65,536), mod 256.
 Sector 1 is laid up to the buffer's end. The kinds:
@@ -94,6 +94,10 @@ class Cases:
     def say(self, name, *values):
         self.lines.append(" ".join([name, *map(str, values)]))
 
+    def given(self, words):
+        """A list as a case gives it."""
+        return tuple(words[i if i < 28 else 24 + i % 3] for i in range(len(words)))
+
     def fill(self, at, count, pair, front=b""):
         """Fills a part of the flash."""
         self.flash[at:at + count] = laid(front, pair, count)
@@ -127,6 +131,9 @@ class Cases:
 
 class GateCases(Cases):
     """Those of the gate's program, which prints five numbers of each case."""
+
+    def given(self, words):
+        return tuple(words[:28]) + (0,) * (len(words) - 28)
 
     def add(self, name, *args, **more):
         super().add(name, *args, **more)

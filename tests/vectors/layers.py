@@ -124,7 +124,7 @@ class Layers:
 
     def part(self, words, slot, length, flash=IMAGES):
         """The part of a slot, or of factory, and the length that it must have."""
-        if self.cases.words != as_given(words):
+        if self.cases.words != self.cases.given(words):
             self.list(words, flash)
         found = app_part(self.cases.words, bytes(self.cases.flash[:flash]), FACTORY if slot is None else slot)
         assert len(found) == length, (words, slot, flash)
@@ -144,14 +144,9 @@ class Layers:
         self.cases.say("image", *(*answer, 0, 0, 0)[:5])
 
 
-def as_given(words):
-    """The list as a case gives it: the words after the 28th are 0."""
-    return tuple(words[:28]) + (0,) * (len(words) - 28)
-
-
 def add_list(cases, words, flash):
     """A list, which those cases that need one have from now on. Gives where its apps lie."""
-    cases.words = as_given(words)
+    cases.words = cases.given(words)
     places = listing(cases.words, flash)
     cases.add("list", flash % (1 << 32), flash >> 32, half=len(words), body=struct.pack(f"<{len(words[:28])}I", *words[:28]))
     cases.say("list", *((1, 0, 0) if places is None else (0, slots_in(places), int(FACTORY in places))))
@@ -260,8 +255,20 @@ def add_list_ends(cases):
             if size <= LAST:
                 cases.list(slots_of(2) + [18, offset, size], right=False)
                 cases.list([18, offset, size] + slots_of(2), FLASH, right=False)
-    for count in (27, 28, 29, 30, 31, 33, 150, 299, 300):  # nine entries are the most
-        cases.list(slots_of(8, factory=8) + [0] * (count - 27), right=count == 27)
+    for words in long_lists():
+        cases.list(words, right=len(words) == 27)
+
+
+def long_lists():
+    """Nine entries are the most."""
+    return [slots_of(8, factory=8) + [0] * (count - 27) for count in (27, 28, 29, 30, 31, 33, 150, 299, 300)]
+
+
+def add_repeated_lists(cases):
+    """Long lists whose entries are right but for being repeated."""
+    for words in (slots_of(9, factory=0), *long_lists()):
+        places = add_list(cases, words, FLASH)
+        assert (places is not None) == (len(words) == 27), words
 
 
 def add_random_lists(cases, rand):

@@ -32,6 +32,7 @@ def of_gate():
 def outside(folder):
     cases = Cases()
     records.add_sectors(cases)
+    layers.add_repeated_lists(cases)
     boots, rewrites = boot.add_all(cases)
     (folder / "cases").write_bytes(bytes(cases.cases))
     (folder / "lines").write_text("\n".join(cases.lines) + "\n")

@@ -8,7 +8,7 @@ use std::io::{self, Read, Write};
 const SECTOR: usize = 4096;
 const STORES: usize = 4128;
 
-/// A case.
+/// A case, or a record: bytes with little-endian words in them.
 struct Case<'a>(&'a [u8]);
 
 impl Case<'_> {
@@ -74,7 +74,8 @@ fn fill(part: &mut [u8], front: &[u8], filler: &[u8]) {
 }
 
 fn list(case: &Case, buffers: &mut Buffers) -> String {
-    buffers.list = (0..case.half() as usize).map(|i| if i < 28 { case.word(16 + 4 * i) } else { 0 }).collect();
+    let place = |i| 16 + 4 * if i < 28 { i } else { 24 + i % 3 };
+    buffers.list = (0..case.half() as usize).map(|i| case.word(place(i))).collect();
     let mut out = [0; 2];
     let number = ffi::check_list(&buffers.list, case.size(4) + (case.size(8) << 32), &mut out);
     format!("list {number} {} {}\n", out[0], out[1])
@@ -149,8 +150,8 @@ fn shown(sector: &[u8]) -> String {
     if ffi::read_sector(sector, &mut out) == 0 {
         return "none".into();
     }
-    let fields = [u32::from_le_bytes(sector[..4].try_into().unwrap()), u32::from_le_bytes(sector[24..28].try_into().unwrap())];
-    assert_eq!(out, fields, "sequence and state of a good record");
+    let record = Case(sector);
+    assert_eq!(out, [record.word(0), record.word(24)], "sequence and state of a good record");
     hex(&sector[..32])
 }
 
