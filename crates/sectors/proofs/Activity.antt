@@ -14,7 +14,7 @@ use Rattle.otadata.specs.declared.Reading.{Reading}
 use Rattle.sectors.specs.declared.Holder.{Holder}
 use Rattle.sectors.specs.declared.Holder.the-variants.{None, Sector}
 use Rattle.otadata.specs.Records.{usable, noReading, sequenceIn}
-use Rattle.sectors.specs.Sectors.{Part, recordPart, activePart, readings, higherOf, active}
+use Rattle.sectors.specs.Sectors.{Part, recordPart, activePart, readings, higherOf, highestOf, active}
 
 -- below the length, the default does not count
 pub default : (rs : List Reading) (k : ℕ) (d e : Reading) → k < length rs → getD rs k d ≡ getD rs k e
@@ -42,14 +42,12 @@ module _ (first second higher : Bool) (yes : not second ≡ false) where
     pub first-higher : higher ≡ false → Sector 0 ≡ higherOf first second higher
     first-higher n = simp (not-false second yes, not-false first too, n)
 
--- ---- the active one
-
-pub is-active : (rs : List Reading) → length rs ≡ 2 → (d : Reading)
+-- by any test of the two records
+pub higher-by : (test : Reading → Bool) (rs : List Reading) → length rs ≡ 2 → (d : Reading)
     → (a : ℕ) → a ≡ sequenceIn (getD rs 0 d .verdict) → (b : ℕ) → b ≡ sequenceIn (getD rs 1 d .verdict)
-    → (first : Bool) → first ≡ usable (getD rs 0 d) → (second : Bool) → second ≡ usable (getD rs 1 d)
-    → (h : Holder) → h ≡ higherOf first second (ltb a b) → h ≡ active rs
-unfolding active
-is-active rs size d a ea b eb first e0 second e1 h e =
+    → (first : Bool) → first ≡ test (getD rs 0 d) → (second : Bool) → second ≡ test (getD rs 1 d)
+    → (h : Holder) → h ≡ higherOf first second (ltb a b) → h ≡ highestOf test rs
+higher-by test rs size d a ea b eb first e0 second e1 h e =
     e ∙ simp (e0, e1, ea, eb, default rs 0 d noReading (omega arith), default rs 1 d noReading (omega arith))
 
 -- there are two sectors

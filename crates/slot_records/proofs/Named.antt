@@ -17,7 +17,7 @@ use Rattle.sectors.specs.declared.Holder.{Holder}
 use Rattle.sectors.specs.declared.Holder.the-variants.{None, Sector}
 use Rattle.otadata.specs.Records.{namesSlot, noReading, sequenceIn, inState}
 use Rattle.sectors.specs.Sectors.{higherOf, active}
-use Rattle.sectors.proofs.Activity.{default, by-usable, active-below-two}
+use Rattle.sectors.proofs.Activity.{default, higher-by, by-usable, active-below-two}
 use Rattle.slot_records.specs.Naming.{names, ifNames, activeNaming, highestNaming, orHolder, namingRecord, activePending}
 
 -- ---- one record
@@ -33,8 +33,7 @@ pub highest-names : (rs : List Reading) → length rs ≡ 2 → (d : Reading) (n
     → (first : Bool) → first ≡ names n s (getD rs 0 d .verdict) → (second : Bool) → second ≡ names n s (getD rs 1 d .verdict)
     → (h : Holder) → h ≡ higherOf first second (ltb a b) → h ≡ highestNaming n s rs
 unfolding highestNaming
-highest-names rs size d n s a ea b eb first e0 second e1 h e =
-    e ∙ simp (e0, e1, ea, eb, default rs 0 d noReading (omega arith), default rs 1 d noReading (omega arith))
+highest-names rs size d n s = higher-by (λ (r : Reading). names n s (r .verdict)) rs size d
 
 module _ (rs : List Reading) (size : length rs ≡ 2) (h : Holder) (found : h ≡ active rs) where
   pub one-of-two : (k : ℕ) → h ≡ Sector k → k < 2

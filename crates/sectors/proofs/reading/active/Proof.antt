@@ -1,6 +1,8 @@
 -- `sectors::reading::active` meets its contract.
 -- Assumes nothing.
-use Rattle.sectors.proofs.Activity.{is-active}
+use Rattle.otadata.specs.Records.{usable}
+use Rattle.sectors.specs.Sectors.{active}
+use Rattle.sectors.proofs.Activity.{higher-by}
 use borrow.Author.Needs.{needs}
 use Rattle.sectors.proofs.reading.active.Statement.{statement}
 use Rattle.sectors.proofs.reading.active.Tie as tie
@@ -27,7 +29,8 @@ higher-of-requires : tie.Need-higher-of-requires
 higher-of-requires c κs = search needs
 
 returns : tie.Need-returns
-returns c = search is-active
+unfolding active
+returns c = search (higher-by usable)
 
 pub active-spec : {M : Type 1} → statement M
 active-spec =
