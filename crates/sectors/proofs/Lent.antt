@@ -2,8 +2,10 @@
 -- Assumes nothing.
 use Prim.Native.Nat.{ℕ, _+_, _-_, _*_, _/_, _<_, _≤_}
 use mathlib.Core.Path.{_≡_, _∙_, sym, ap, ap₂}
+use mathlib.Core.Bool.{false}
 use mathlib.Core.List.{List, [], _++_}
 use native.Mathlib.Omega.{arith}
+use lib.Dec.{eqb}
 use lib.ListN.{length, take, drop, length-take, length-drop}
 use borrow.Author.Tests.{ne-eqb}
 use Rattle.otadata.specs.declared.State.{State}
@@ -26,9 +28,12 @@ module _ (k : ℕ) (o : List ℕ) where
     short : length (sectorAt k o) < 4096
     short = simp (length-take, length-drop) (omega arith)
 
+    no-sector : eqb (length (sectorAt k o)) 4096 ≡ false
+    no-sector = ne-eqb (length (sectorAt k o)) 4096 (λ (e : length (sectorAt k o) ≡ 4096). omega (arith, short))
+
     no-record-there : recordIn (sectorAt k o) ≡ []
     unfolding recordIn
-    no-record-there = simp (ne-eqb (length (sectorAt k o)) 4096 (λ (e : length (sectorAt k o) ≡ 4096). omega (arith, short)))
+    no-record-there = simp no-sector
 
     pub none-there : (r : Reading) → r ≡ sectorReading [] → r ≡ sectorReading (sectorAt k o)
     unfolding recordIn
@@ -42,8 +47,7 @@ module _ (k : ℕ) (o : List ℕ) where
 
     pub nothing-rewritten-there : (rec : List ℕ) → reply 2 o ≡ rewriteAt k o rec
     unfolding rewriteAt withRecord rewrite
-    nothing-rewritten-there rec =
-        simp (ne-eqb (length (sectorAt k o)) 4096 (λ (e : length (sectorAt k o) ≡ 4096). omega (arith, short)), with-same k o)
+    nothing-rewritten-there rec = simp (no-sector, with-same k o)
 
   -- ---- the part is the sector
 
