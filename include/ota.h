@@ -91,12 +91,12 @@ uint32_t ota_mark_invalid(const uint32_t *list, size_t words, const uint8_t *fla
 
 /* Gives the state of the record that names a slot. out = {state word}. */
 uint32_t ota_state_query(const uint32_t *list, size_t words, const uint8_t *flash, size_t flash_len,
-                         uint8_t *otadata, size_t otadata_len,
+                         const uint8_t *otadata, size_t otadata_len,
                          uint32_t slot, uint32_t out[1]);
 
 /* Gives the slot to write an update to, from the running slot, or 0xFFFFFFFF for factory. out = {slot}. */
 uint32_t ota_next_slot(const uint32_t *list, size_t words, const uint8_t *flash, size_t flash_len,
-                       uint8_t *otadata, size_t otadata_len,
+                       const uint8_t *otadata, size_t otadata_len,
                        uint16_t chip_id, uint32_t efuse, uint8_t rollback, uint8_t anti_rollback,
                        uint32_t running, uint32_t out[1]);
 

@@ -11,7 +11,8 @@ A case is 128 bytes; numbers are little-endian:
    16  record of sector 0, 48  record of sector 1, 80  the record lent; or the bytes that are put into the flash; or the list's first 28
        words: after them the gate's program has zeros, and the other repeats words 24 to 26
   124  start and step of sector 0's or the flash's filler, 126  those of sector 1's
-Byte i of what is filled is the front's, and after it the start, with step 1 plus 7 i + 13 (i / 256) + 29 (i / 65,536), mod 256.
+Byte i of what is filled is the front's, and after it the start, with step 1 plus 7 i + 13 (i / 256) + 29 (i / 65,536), mod 256. With step 2,
+in the gate's program alone, it is byte i % 4 of the number i - i % 4: the word at each multiple of 4 is its place.
 Sector 1 is laid up to the buffer's end. The kinds:
     0 flash: c bytes and the filler after them, from a on, b in all
     1 check: sequence a                         the check word
@@ -21,7 +22,7 @@ Sector 1 is laid up to the buffer's end. The kinds:
     5 read: c bytes at 16                       the record that they read as, made again: number, sum
     6 make: sequence a, state word b, label of the record at 16      number, sum of the record
     7 list: words, length a + 2^32 b of the flash                    number, slots, 1 if factory is listed
-    8 part: slot a, length c of the flash       length and sum of the slot's part
+    8 part: slot a, length c of the flash       length and sum of the slot's part, and its first word, which is its place in a flash of step 2
     9 factory: length c of the flash            the same of factory
    10 image: chip, length c                     number, and the four numbers of its check
    11 active: lengths a, b of the sectors       number, the record, what each sector reads as
@@ -52,6 +53,8 @@ FRONT = 108
 
 @functools.lru_cache(None)
 def filler(start, step, count):
+    if step == 2:
+        return b"".join(i.to_bytes(4, "little") for i in range(0, count, 4))[:count]
     return bytes((start + step * (7 * i + 13 * (i // 256) + 29 * (i // 65536))) % 256 for i in range(count))
 
 

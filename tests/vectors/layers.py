@@ -115,22 +115,25 @@ class Layers:
         self.cases.add("raise", register, v)
         self.cases.say("raise", got)
 
-    def fill(self):
-        self.cases.fill(0, IMAGES, (0, 1))
+    def fill(self, step=1):
+        self.cases.fill(0, IMAGES, (0, step))
 
     def list(self, words, flash=FLASH, right=None):
         places = add_list(self.cases, words, flash)
         assert right in (None, places is not None), (words, flash)
 
     def part(self, words, slot, length, flash=IMAGES):
-        """The part of a slot, or of factory, and the length that it must have."""
+        """The part of a slot, or of factory, and the length that it must have. Its first word is its place."""
         if self.cases.words != self.cases.given(words):
             self.list(words, flash)
-        found = app_part(self.cases.words, bytes(self.cases.flash[:flash]), FACTORY if slot is None else slot)
+        app = FACTORY if slot is None else slot
+        found = app_part(self.cases.words, bytes(self.cases.flash[:flash]), app)
         assert len(found) == length, (words, slot, flash)
+        place = word(found, 0)
+        assert length == 0 or place == listing(self.cases.words, flash)[app][0], (words, slot, flash)
         name = "factory" if slot is None else "part"
         self.cases.add(name, slot or 0, c=flash)
-        self.cases.say(name, len(found), total(found))
+        self.cases.say(name, len(found), total(found), place)
 
     def image(self, content, wanted=None, length=None, chip=0):
         """An image at the front of the flash. What is wanted is the answer's number, or how the answer begins."""
@@ -286,7 +289,9 @@ def add_random_lists(cases, rand):
 
 
 def add_parts(cases):
-    cases.fill()
+    """In a flash whose words are all different, so that the bytes of a part that is not empty are those of one place alone."""
+    cases.fill(2)
+    assert len(set(struct.unpack(f"<{IMAGES // 4}I", cases.cases.flash[:IMAGES]))) == IMAGES // 4
     mixed = slots_of(4, factory=2, order=(2, 0, 3, 1))
     mixed[2] = SECTOR  # slot 2
     for slot in (None, 0, 1, 2, 3):
@@ -301,6 +306,7 @@ def add_parts(cases):
     for words, flash in [(words, IMAGES) for words in wrong] + [(mixed, 6 * ALIGN - 1), (mixed, 0)]:  # refused
         for slot in (None, 0, 3):
             cases.part(words, slot, 0, flash)
+    cases.fill()
 
 
 # ---- app images

@@ -13,13 +13,14 @@ use Rattle.otadata.proofs.Booleans.{true-or-false, true-is-not-false}
 use Rattle.app_image.specs.declared.Tested.{Tested}
 use Rattle.app_image.specs.declared.Tested.the-variants.{Passed, Failed}
 use Rattle.app_image.specs.declared.Facts.{Facts}
+use Rattle.otadata.specs.Answers.{Answered}
 use Rattle.app_image.specs.declared.Checked.{Checked}
 use Rattle.app_image.specs.declared.Checked.the-variants.{Accepted}
 use Rattle.app_image.specs.Layout.{magic, segmentCount, digestFlag, segments, anyBad, stop, wholeLength, checksum}
 use Rattle.app_image.specs.Check.{refuseIf, then, countRight, described, lengthTest, headerTests, segmentTest, endTests, factsOf, fromSegments, fromEnd, check}
 
 -- the tests before an acceptance passed
-then-accepts : (t : Tested) (rest : Checked) (facts : Facts) → then t rest ≡ Accepted facts → (t ≡ Passed) × (rest ≡ Accepted facts)
+then-accepts : (t : Tested) (rest : Answered Checked) (facts : Facts) → then t rest .reply ≡ Accepted facts → (t ≡ Passed) × (rest .reply ≡ Accepted facts)
 then-accepts Passed rest facts e = (refl, e)
 then-accepts (Failed refusal) rest facts e = absurd (let z : _≡_ {A = ℕ} 0 1 = cc in omega arith)
 
@@ -52,7 +53,7 @@ pub record IsAccepted (s : List ℕ) (chip : ℕ) (facts : Facts) : Type 0 where
   pub fits : wholeLength (digestFlag s) (stop (segments s)) ≤ length s
   pub are : factsOf s (stop (segments s)) ≡ facts
 
-pub is-accepted : (s : List ℕ) (chip : ℕ) (facts : Facts) → check s chip ≡ Accepted facts → IsAccepted s chip facts
+pub is-accepted : (s : List ℕ) (chip : ℕ) (facts : Facts) → check s chip .reply ≡ Accepted facts → IsAccepted s chip facts
 unfolding check segmentTest endTests
 is-accepted s chip facts e =
     let segs = segments s in

@@ -2,8 +2,9 @@
 ghost use mathlib.Core.Path.{_≡_};
 ghost use Prim.Native.Nat.{_≤_};
 ghost use lib.ListN.{length};
+ghost use Rattle.otadata.specs.Answers.{viewed};
 ghost use Rattle.app_image.specs.Layout.{segments};
-ghost use Rattle.app_image.specs.Check.{check as Check·check, headerTests, endTests, countRight, described as Check·described, fromSegments, fromEnd};
+ghost use Rattle.app_image.specs.Check.{view, check as Check·check, headerTests, endTests, countRight, described as Check·described, fromSegments, fromEnd};
 use crate::BAD_SEGMENT;
 use crate::CUT_SHORT;
 use crate::Checked;
@@ -33,7 +34,7 @@ const MIN_LENGTH: usize = 288;
 
 // Checks an image, for a chip: 20 first, then the header, then the segments.
 pub fn check(image: &[u8], chip: u16) -> Checked
-    ensures { λ r. ⌜ r ≡ Check·check (now (image .entry)) chip ⌝ }
+    ensures { λ r. ⌜ viewed view r ≡ Check·check (now (image .entry)) chip ⌝ }
 {
     if image.len() < MIN_LENGTH {
         return Checked::Refused(Refusal {
@@ -92,7 +93,7 @@ fn count_right(count: u8) -> bool
 // 25, and the tests after it.
 fn check_segments(image: &[u8]) -> Checked
     requires { ⌜ 288 ≤ length (now image) ⌝ }
-    ensures { λ r. ⌜ r ≡ fromSegments (now (image .entry)) (segments (now (image .entry))) ⌝ }
+    ensures { λ r. ⌜ viewed view r ≡ fromSegments (now (image .entry)) (segments (now (image .entry))) ⌝ }
 {
     let walked = walk(image, image[1]);
     match walked {
@@ -107,7 +108,7 @@ fn check_segments(image: &[u8]) -> Checked
 // 26 to 29, and the facts of an image that passes.
 fn check_end(image: &[u8], e: usize, sum: u8) -> Checked
     requires { ⌜ (288 ≤ length (now image)) × (e ≤ length (now image)) ⌝ }
-    ensures { λ r. ⌜ r ≡ fromEnd (now (image .entry)) e sum ⌝ }
+    ensures { λ r. ⌜ viewed view r ≡ fromEnd (now (image .entry)) e sum ⌝ }
 {
     let end = test_end(image, e, sum);
     if let Tested::Failed(refusal) = end {

@@ -31,12 +31,12 @@ use Rattle.boot_choice.specs.Choice.{factory, barred, candidate, searchFrom, ch
 
 -- it is accepted, and not too old
 pub held-by : (settings : Settings) (c : Checked) (facts : Facts) → held settings c ≡ Yes facts
-    → (c ≡ Accepted facts) × (tooOld settings (facts .version .0) ≡ false)
+    → (c ≡ Accepted facts) × (tooOld settings (facts .version) ≡ false)
 held-by settings (Refused refusal) facts e = absurd (let z : _≡_ {A = ℕ} 0 1 = cc in omega arith)
-held-by settings (Accepted f) facts e = by (tooOld settings (f .version .0)) refl e
+held-by settings (Accepted f) facts e = by (tooOld settings (f .version)) refl e
   where
-    by : (b : Bool) → tooOld settings (f .version .0) ≡ b → cond b No (Yes f) ≡ Yes facts
-        → (Accepted f ≡ Accepted facts) × (tooOld settings (facts .version .0) ≡ false)
+    by : (b : Bool) → tooOld settings (f .version) ≡ b → cond b No (Yes f) ≡ Yes facts
+        → (Accepted f ≡ Accepted facts) × (tooOld settings (facts .version) ≡ false)
     by true t h = absurd (let z : _≡_ {A = ℕ} 0 1 = cc in omega arith)
     by false t h = let same : f ≡ facts = cc in (ap Accepted same, rw same at t)
 
@@ -105,16 +105,16 @@ module _ (list flash : List ℕ) (settings : Settings) (rs : List Reading) where
   not-barred true p facts e = absurd (let z : _≡_ {A = ℕ} 0 1 = cc in omega arith)
   not-barred false p facts e = e
 
-  candidate-sound : (s : ℕ) → Sounds (ifPasses (Found (record { 0 = s })) (candidate list flash settings rs s))
+  candidate-sound : (s : Slot) → Sounds (ifPasses (Found s) (candidate list flash settings rs s))
   unfolding candidate
   candidate-sound s =
-      passing-sound (Found (record { 0 = s })) (candidate list flash settings rs s)
+      passing-sound (Found s) (candidate list flash settings rs s)
       (λ (facts : Facts) (p : candidate list flash settings rs s ≡ Yes facts). found (not-barred (barred (slotCount list) rs s) _ facts p))
 
   search-sound : (s k : ℕ) → Sounds (searchFrom list flash settings rs s k)
   unfolding searchFrom
   search-sound s zero = nothing
-  search-sound s (suc k) = either-sound (candidate-sound s) (search-sound (s + 1) k)
+  search-sound s (suc k) = either-sound (candidate-sound (record { 0 = s })) (search-sound (s + 1) k)
 
   pub choice-sound : Sound list flash settings rs (choice list flash settings rs)
   unfolding choice

@@ -1,29 +1,32 @@
 -- The definitions evaluated: document 01's example of a fall back, and small ones.
 -- Assumes nothing.
 use Prim.Native.Nat.{ℕ}
-use mathlib.Core.Path.{_≡_, refl}
-use mathlib.Core.Bool.{true}
+use mathlib.Core.Path.{_≡_, refl, ap}
+use mathlib.Core.Bool.{true, false}
 use mathlib.Core.List.{List, [], _∷_}
 use lib.Count.{onesIn}
+use lib.ListN.{length}
 use Rattle.otadata.specs.declared.Slot.{Slot}
 use Rattle.otadata.specs.declared.State.{State}
 use Rattle.otadata.specs.declared.State.the-variants.{New, Valid, Aborted}
 use Rattle.otadata.specs.declared.Verdict.the-variants.{Good}
 use Rattle.otadata.specs.declared.Reading.{Reading}
-use Rattle.sectors.specs.declared.Holder.the-variants.{None, Sector}
+use Rattle.sectors.specs.declared.Holder.the-variants.{Sector}
 use Rattle.otadata.specs.Records.{namesSlot, noReading}
 use Rattle.sectors.specs.Sectors.{active}
+use Rattle.otadata.proofs.Booleans.{true-is-not-false}
 use Rattle.efuse.specs.Register.{setLowest, raised}
-use Rattle.partitions.specs.declared.App.the-variants.{Factory as FactoryApp, OtaSlot}
-use Rattle.partitions.specs.PartitionList.{everyBelow, countBelow, factorySubtype, timesListed, slotCount, right, checked}
+use Rattle.partitions.specs.declared.App.the-variants.{OtaSlot}
+use Rattle.partitions.specs.PartitionList.{countBelow, factorySubtype, timesListed, slotCount, right, checked}
 use Rattle.app_image.specs.declared.Facts.{Facts}
 use Rattle.boot_choice.specs.declared.Settings.{Settings}
 use Rattle.boot_choice.specs.declared.Passing.the-variants.{No, Yes}
 use Rattle.boot_choice.specs.declared.Choice.the-variants.{Nothing, Through, Found}
-use Rattle.boot.specs.declared.Reply.the-variants.{Starts}
-use Rattle.boot_choice.specs.Acceptance.{acceptedNode, accepted}
+use Rattle.boot_choice.specs.Acceptance.{otadataSize, acceptedNode, accepted}
 use Rattle.boot_choice.specs.Choice.{passing, Passes, throughRecord, throughRecords, factory, barred, candidate, searchFrom, choice}
-use Rattle.boot.specs.Boot.{view, refused, anyGood, registerAfter, Accepts}
+use Rattle.boot_choice.specs.Example.{exampleList, exampleFlash, exampleSettings}
+use Rattle.boot_choice.proofs.Examples.{example-node}
+use Rattle.boot.specs.Boot.{anyGood, registerAfter, passedTests, Accepts}
 use Rattle.boot.proofs.ThroughRecords.{passed-facts}
 
 abbrev pub slot1 : Slot
@@ -61,7 +64,7 @@ module _ (list flash : List ℕ) (settings : Settings) (facts : Facts) (n : slot
   abbrev abortedAlone : List Reading
   abortedAlone = goodReading 5 Aborted [] ∷ noReading ∷ []
 
-  candidates : (candidate list flash settings abortedAlone 0 ≡ No) × (candidate list flash settings abortedAlone 1 ≡ Yes facts)
+  candidates : (candidate list flash settings abortedAlone (record { 0 = 0 }) ≡ No) × (candidate list flash settings abortedAlone slot1 ≡ Yes facts)
   unfolding candidate barred namesSlot noReading
   candidates = (simp n, simp (n, p))
 
@@ -86,21 +89,10 @@ module _ (chip : ℕ) (facts : Facts) (v : facts .version .0 ≡ 4) where
   unfolding registerAfter anyGood noReading
   keeps = refl
 
--- two slots of 4,096 bytes in a flash of 69,632: boot accepts, with both protections on
-pub accepts : (chip efuse : ℕ)
-    → Accepts (16 ∷ 0 ∷ 4096 ∷ 17 ∷ 65536 ∷ 4096 ∷ []) 69632 8192 (record { chip = chip; efuse = efuse; rollback = true; «anti_rollback» = true })
-unfolding accepted acceptedNode checked right everyBelow countBelow
-accepts chip efuse = refl
+-- boot accepts the example node, and no node with an empty list
+pub accepts : Accepts exampleList (length exampleFlash) otadataSize exampleSettings
+accepts = ap passedTests (example-node .accepts)
 
--- the views of replies: a refusal, a slot through a sector, and factory
-module _ (settings : Settings) (number k register : ℕ) (slot : Slot) where
-  pub refused-view : view (refused settings number) ≡ record { number = number; values = 0 ∷ 0 ∷ 2 ∷ settings .efuse ∷ [] }
-  refused-view = refl
-
-  pub slot-view : view (Starts (record { app = OtaSlot slot; through = Sector k; register = register }))
-      ≡ record { number = 0; values = 2 ∷ slot .0 ∷ k ∷ register ∷ [] }
-  slot-view = refl
-
-  pub factory-view : view (Starts (record { app = FactoryApp; through = None; register = register }))
-      ≡ record { number = 0; values = 1 ∷ 0 ∷ 2 ∷ register ∷ [] }
-  factory-view = refl
+no-list : Accepts [] 69632 otadataSize exampleSettings → ⊥
+unfolding accepted acceptedNode checked right countBelow
+no-list e = true-is-not-false false e refl

@@ -1,12 +1,13 @@
 -- The steps of boot put together, and its reply, as the code makes them.
 -- Assumes nothing.
 use Prim.Native.Nat.{ℕ, _<_}
-use mathlib.Core.Path.{_≡_, _∙_, refl, sym, ap}
+use mathlib.Core.Path.{_≡_, _∙_, refl, sym, ap, ap₂}
 use mathlib.Core.Bool.{Bool, true, false, not}
 use mathlib.Core.List.{List}
 use native.Mathlib.Omega.{arith}
 use lib.ListN.{length, getD}
 use borrow.Author.Tests.{not-true, not-false}
+use Rattle.otadata.specs.Answers.{viewed}
 use Rattle.otadata.specs.declared.Slot.{Slot}
 use Rattle.otadata.specs.declared.Reading.{Reading}
 use Rattle.sectors.specs.declared.Holder.{Holder}
@@ -21,10 +22,10 @@ use Rattle.boot_choice.specs.declared.Settings.{Settings}
 use Rattle.boot_choice.specs.declared.Choice.{Choice}
 use Rattle.boot_choice.specs.declared.Choice.the-variants.{Nothing, Through, Factory, Found}
 use Rattle.boot.specs.declared.Reply.{Reply}
-use Rattle.boot.specs.declared.Reply.the-variants.{Starts}
+use Rattle.boot.specs.declared.Reply.the-variants.{Refused, Starts}
 use Rattle.boot_choice.specs.Acceptance.{accepted}
 use Rattle.boot_choice.specs.Choice.{choice}
-use Rattle.boot.specs.Boot.{outcome, refused, marked, usedSector, awaiting, goodVerdict, anyGood, registerAfter, replyTo, fromMarks, byTests, boot, passedTests, Accepts}
+use Rattle.boot.specs.Boot.{view, outcome, marked, usedSector, awaiting, goodVerdict, anyGood, registerAfter, replyTo, fromMarks, byTests, boot, passedTests, Accepts}
 use Rattle.otadata.proofs.Booleans.{true-is-not-false}
 use Rattle.boot.proofs.ChoiceLaws.{Sound, nothing, through, by-factory, found, choice-sound}
 use Rattle.boot.proofs.TestLaws.{tests-decide, where-accepted}
@@ -63,21 +64,21 @@ pub uses-sector : (c : Choice) (k : ℕ) (slot : Slot) (facts : Facts) → c ≡
 uses-sector c k slot facts e = simp e
 
 module _ (settings : Settings) (rs : List Reading) (c : Choice) where
-  pub nothing-starts : c ≡ Nothing → refused settings 10 ≡ replyTo settings rs c
+  pub nothing-starts : c ≡ Nothing → viewed view (Refused (record { number = 10; register = settings .efuse })) ≡ replyTo settings rs c
   nothing-starts e = simp e
 
   pub record-starts : (k : ℕ) (slot : Slot) (facts : Facts) → c ≡ Through k slot facts
-      → Starts (record { app = OtaSlot slot; through = Sector k; register = settings .efuse }) ≡ replyTo settings rs c
+      → viewed view (Starts (record { app = OtaSlot slot; through = Sector k; register = settings .efuse })) ≡ replyTo settings rs c
   unfolding registerAfter
   record-starts k slot facts e = simp e
 
   pub factory-starts : (facts : Facts) → c ≡ Factory facts
-      → Starts (record { app = FactoryApp; through = None; register = settings .efuse }) ≡ replyTo settings rs c
+      → viewed view (Starts (record { app = FactoryApp; through = None; register = settings .efuse })) ≡ replyTo settings rs c
   unfolding registerAfter
   factory-starts facts e = simp e
 
   pub found-starts : (slot : Slot) (facts : Facts) → c ≡ Found slot facts → (register : ℕ) → register ≡ registerAfter settings rs (Found slot facts)
-      → Starts (record { app = OtaSlot slot; through = None; register = register }) ≡ replyTo settings rs c
+      → viewed view (Starts (record { app = OtaSlot slot; through = None; register = register })) ≡ replyTo settings rs c
   found-starts slot facts e register r = simp (e, r)
 
 -- ---- the steps
@@ -100,16 +101,16 @@ marks-keep-size settings o left size e = ap length e ∙ marked-size settings o 
 
 pub steps : (list flash o : List ℕ) (settings : Settings) (left : List ℕ) (rs : List Reading) → (left ≡ marked settings o) × (rs ≡ readingsOf left)
     → (c : Choice) → c ≡ choice list flash settings rs → (h : Holder) → h ≡ usedSector c
-    → (last : List ℕ) → last ≡ awaiting settings h left → (r : Reply) → r ≡ replyTo settings rs c
-    → outcome r last ≡ fromMarks list flash settings (marked settings o)
+    → (last : List ℕ) → last ≡ awaiting settings h left → (r : Reply) → viewed view r ≡ replyTo settings rs c
+    → outcome (viewed view r) last ≡ fromMarks list flash settings (marked settings o)
 unfolding fromMarks
 steps list flash o settings left rs (is, read) c chose h used last left-by r replied =
-    simp (replied, left-by, used, chose, read, is)
+    ap₂ outcome replied left-by ∙ simp (used, chose, read, is)
 
 -- ---- the tests
 
 module _ (list flash o : List ℕ) (settings : Settings) (c : Checked) (is : c ≡ accepted list (length flash) (length o) settings) where
-  pub tests-refuse : (number : ℕ) → c ≡ NotAccepted number → outcome (refused settings number) o ≡ boot list flash o settings
+  pub tests-refuse : (number : ℕ) → c ≡ NotAccepted number → outcome (viewed view (Refused (record { number = number; register = settings .efuse }))) o ≡ boot list flash o settings
   unfolding boot
   tests-refuse number e = simp (← is, e)
 
@@ -117,7 +118,7 @@ module _ (list flash o : List ℕ) (settings : Settings) (c : Checked) (is : c �
   accepted-size listing e = where-accepted (tests-decide list (length flash) (length o) settings) listing (sym is ∙ e)
 
   pub tests-pass : (listing : Listing) → c ≡ Accepted listing → (r : Reply) (left : List ℕ)
-      → outcome r left ≡ fromMarks list flash settings (marked settings o) → outcome r left ≡ boot list flash o settings
+      → outcome (viewed view r) left ≡ fromMarks list flash settings (marked settings o) → outcome (viewed view r) left ≡ boot list flash o settings
   unfolding boot
   tests-pass listing e r left steps = steps ∙ simp (← is, e)
 
@@ -129,12 +130,12 @@ afterMarks settings o = readingsOf (marked settings o)
 
 module _ (list flash o : List ℕ) (settings : Settings) where
   reply-by : (c : Checked) → passedTests c ≡ true
-      → byTests list flash o settings c .reply ≡ replyTo settings (afterMarks settings o) (choice list flash settings (afterMarks settings o))
+      → byTests list flash o settings c .reply ≡ replyTo settings (afterMarks settings o) (choice list flash settings (afterMarks settings o)) .reply
   unfolding fromMarks
   reply-by (NotAccepted number) e = absurd (true-is-not-false false e refl)
   reply-by (Accepted listing) e = refl
 
   pub replies : Accepts list (length flash) (length o) settings
-      → boot list flash o settings .reply ≡ replyTo settings (afterMarks settings o) (choice list flash settings (afterMarks settings o))
+      → boot list flash o settings .reply ≡ replyTo settings (afterMarks settings o) (choice list flash settings (afterMarks settings o)) .reply
   unfolding boot
   replies = reply-by (accepted list (length flash) (length o) settings)

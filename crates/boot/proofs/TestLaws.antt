@@ -7,6 +7,7 @@ use mathlib.Core.List.{List}
 use native.Mathlib.Omega.{arith}
 use lib.Dec.{eqb}
 use borrow.Author.Tests.{eqb-true, not-false}
+use Rattle.otadata.specs.Answers.{Answered}
 use Rattle.partitions.specs.declared.Listing.{Listing}
 use Rattle.partitions.specs.declared.Checked.{Checked}
 use Rattle.partitions.specs.declared.Checked.the-variants.{Refused, Accepted}
@@ -31,6 +32,10 @@ either-way : {P : Type 0} {c d : Checked} (b : Bool) → Tested P c → (b ≡ f
 either-way true first second = first
 either-way false first second = second refl
 
+reply-either-way : {P : Type 0} (b : Bool) (x y : Answered Checked) → Tested P (x .reply) → Tested P (y .reply) → Tested P (cond b x y .reply)
+reply-either-way true x y first second = first
+reply-either-way false x y first second = second
+
 -- one more test
 refuse-if : {P Q : Type 0} (wrong : Listing → Bool) (number : ℕ) → OneToThree number → ((listing : Listing) → wrong listing ≡ false → P → Q)
     → {c : Checked} → Tested P c → Tested Q (refuseIf wrong number c)
@@ -39,9 +44,9 @@ refuse-if wrong number l more (passes {listing = listing} p) =
     either-way (wrong listing) (fails l) (λ (right : wrong listing ≡ false). passes (more listing right p))
 
 module _ (list : List ℕ) (capacity size : ℕ) where
-  list-tested : Tested Unit (checked list capacity)
+  list-tested : Tested Unit (checked list capacity .reply)
   unfolding checked
-  list-tested = either-way (right list capacity) (passes tt) (λ (wrong : right list capacity ≡ false). fails (omega arith, omega arith))
+  list-tested = reply-either-way (right list capacity) _ _ (passes tt) (fails (omega arith, omega arith))
 
   pub node-tested : Tested (size ≡ 8192) (acceptedNode list capacity size)
   unfolding acceptedNode

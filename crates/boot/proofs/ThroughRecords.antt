@@ -2,18 +2,20 @@
 -- Assumes nothing.
 use Prim.Native.Nat.{ℕ, _-_, _<_}
 use mathlib.Core.Path.{_≡_, _∙_, refl, ap}
-use mathlib.Core.Bool.{Bool, true, false}
+use mathlib.Core.Bool.{true, false}
 use mathlib.Core.List.{List}
 use mathlib.Core.Logic.{_⊎_, inl, inr, ⊎-elim}
+use native.Mathlib.Omega.{arith}
 use lib.ListN.{getD}
 use Rattle.otadata.specs.declared.Sequence.{Sequence}
 use Rattle.otadata.specs.declared.State.{State}
 use Rattle.otadata.specs.declared.Verdict.{Verdict}
 use Rattle.otadata.specs.declared.Verdict.the-variants.{None as NotGood, Good}
 use Rattle.otadata.specs.declared.Reading.{Reading}
-use Rattle.sectors.specs.declared.Holder.the-variants.{Sector}
+use Rattle.sectors.specs.declared.Holder.{Holder}
+use Rattle.sectors.specs.declared.Holder.the-variants.{None, Sector}
 use Rattle.otadata.specs.Records.{usableState, usableVerdict, usable, noReading}
-use Rattle.sectors.specs.Sectors.{higherOf, active}
+use Rattle.sectors.specs.Sectors.{active}
 use Rattle.otadata.proofs.Booleans.{true-is-not-false}
 use Rattle.partitions.specs.declared.App.the-variants.{OtaSlot}
 use Rattle.app_image.specs.declared.Facts.{Facts}
@@ -22,7 +24,7 @@ use Rattle.boot_choice.specs.declared.Passing.{Passing}
 use Rattle.boot_choice.specs.declared.Passing.the-variants.{No, Yes}
 use Rattle.boot_choice.specs.declared.Choice.the-variants.{Nothing, Through}
 use Rattle.boot_choice.specs.Choice.{passing, passed, namedSlot, throughRecord, throughRecords, choice}
-use Rattle.sectors.proofs.TwoSectors.{two}
+use Rattle.sectors.proofs.Activity.{this-or-other, active-below-two, active-usable, none-usable}
 
 -- sector k holds a usable record of sequence q
 pub record UsableOf (rs : List Reading) (k : ℕ) (q : Sequence) : Type 0 where
@@ -32,24 +34,18 @@ pub record UsableOf (rs : List Reading) (k : ℕ) (q : Sequence) : Type 0 where
 
 -- ---- the active record
 
-of-first : (second higher : Bool) → (higherOf true second higher ≡ Sector 0) ⊎ ((higherOf true second higher ≡ Sector 1) × (second ≡ true))
-of-first false higher = inl refl
-of-first true true = inr (refl, refl)
-of-first true false = inl refl
-
-of-second : (first higher : Bool) → (higherOf first true higher ≡ Sector 1) ⊎ ((higherOf first true higher ≡ Sector 0) × (first ≡ true))
-of-second false higher = inl refl
-of-second true true = inl refl
-of-second true false = inr (refl, refl)
-
 module _ (rs : List Reading) where
   active-by : (p : ℕ) → p < 2 → usable (getD rs (1 - p) noReading) ≡ true
       → (active rs ≡ Sector (1 - p)) ⊎ ((active rs ≡ Sector p) × (usable (getD rs p noReading) ≡ true))
-  unfolding active
-  active-by =
-      two (λ (p : ℕ). usable (getD rs (1 - p) noReading) ≡ true → (active rs ≡ Sector (1 - p)) ⊎ ((active rs ≡ Sector p) × (usable (getD rs p noReading) ≡ true)))
-      (λ (u : usable (getD rs 1 noReading) ≡ true). rw u (of-second (usable (getD rs 0 noReading)) _))
-      (λ (u : usable (getD rs 0 noReading) ≡ true). rw u (of-first (usable (getD rs 1 noReading)) _))
+  active-by p l u = by (active rs) refl
+    where
+      by : (h : Holder) → active rs ≡ h → (active rs ≡ Sector (1 - p)) ⊎ ((active rs ≡ Sector p) × (usable (getD rs p noReading) ≡ true))
+      by None e = absurd (true-is-not-false _ u (none-usable rs e (1 - p) (omega arith)))
+      by (Sector k) e =
+          ⊎-elim
+          (λ (own : k ≡ p). inr (e ∙ ap Sector own, active-usable rs p (e ∙ ap Sector own)))
+          (λ (other : k ≡ 1 - p). inl (e ∙ ap Sector other))
+          (this-or-other p l k (active-below-two rs k e))
 
   usable-of : (k : ℕ) (v : Verdict) → getD rs k noReading .verdict ≡ v → usableVerdict v ≡ true → (q : Sequence) × UsableOf rs k q
   usable-of k NotGood e u = absurd (true-is-not-false false u refl)

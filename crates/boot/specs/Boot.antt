@@ -4,7 +4,7 @@ use mathlib.Core.Path.{_≡_}
 use mathlib.Core.Bool.{Bool, true, false, cond, not, _&&_}
 use mathlib.Core.List.{List, [], _∷_, _++_}
 use lib.ListN.{length}
-use Rattle.otadata.specs.Answers.{Answer}
+use Rattle.otadata.specs.Answers.{Answer, Answered, answers}
 use Rattle.otadata.specs.declared.State.the-variants.{New, Pending, Aborted}
 use Rattle.otadata.specs.declared.Verdict.{Verdict}
 use Rattle.otadata.specs.declared.Verdict.the-variants.{None as NotGood, Good}
@@ -44,16 +44,19 @@ view (Refused refusal) = record { number = refusal .number; values = 0 ∷ 0 ∷
 view (Starts start) =
     record { number = 0; values = appValues (start .app) ++ (sectorValue (start .through) ∷ start .register ∷ []) }
 
--- what boot replies, and the otadata that it leaves
+-- what boot replies, with its number and its values, and the otadata that it leaves
 pub record Outcome : Type 0 where
+  pub answer : Answer
   pub reply : Reply
   pub otadata : List ℕ
 
-abbrev pub outcome : Reply → List ℕ → Outcome
-outcome r o = record { reply = r; otadata = o }
+abbrev pub outcome : Answered Reply → List ℕ → Outcome
+outcome a o = record { answer = a .answer; reply = a .reply; otadata = o }
 
-abbrev pub refused : Settings → ℕ → Reply
-refused settings number = Refused (record { number = number; register = settings .efuse })
+-- a refusal names no app, no slot and no sector, and returns the register as given
+abbrev pub refused : Settings → ℕ → Answered Reply
+refused settings number =
+    answers number (0 ∷ 0 ∷ 2 ∷ settings .efuse ∷ []) (Refused (record { number = number; register = settings .efuse }))
 
 -- ---- step 1
 
@@ -101,16 +104,18 @@ registerAfter settings rs (Found slot facts) =
 
 -- ---- boot
 
--- the start of an app, by that choice of it
-abbrev pub starts : Settings → List Reading → Choice → App → Reply
-starts settings rs made app = Starts (record { app = app; through = usedSector made; register = registerAfter settings rs made })
+-- the start of an app, by that choice of it: 0 with those values and the register
+abbrev pub starts : Settings → List Reading → Choice → App → List ℕ → Answered Reply
+starts settings rs made app values =
+    let register = registerAfter settings rs made in
+    answers 0 (values ++ (register ∷ [])) (Starts (record { app = app; through = usedSector made; register = register }))
 
--- the reply to a choice; nothing bootable is refused with 10
-abbrev pub replyTo : Settings → List Reading → Choice → Reply
+-- the reply to a choice: 1 for factory, 2 for a slot, then the slot, and the sector, 2 for none; nothing bootable is refused with 10
+abbrev pub replyTo : Settings → List Reading → Choice → Answered Reply
 replyTo settings rs Nothing = refused settings 10
-replyTo settings rs (Through k slot facts) = starts settings rs (Through k slot facts) (OtaSlot slot)
-replyTo settings rs (Factory facts) = starts settings rs (Factory facts) FactoryApp
-replyTo settings rs (Found slot facts) = starts settings rs (Found slot facts) (OtaSlot slot)
+replyTo settings rs (Through k slot facts) = starts settings rs (Through k slot facts) (OtaSlot slot) (2 ∷ slot .0 ∷ k ∷ [])
+replyTo settings rs (Factory facts) = starts settings rs (Factory facts) FactoryApp (1 ∷ 0 ∷ 2 ∷ [])
+replyTo settings rs (Found slot facts) = starts settings rs (Found slot facts) (OtaSlot slot) (2 ∷ slot .0 ∷ 2 ∷ [])
 
 -- steps 2 to 4, on the sectors as step 1 left them
 unfoldable pub fromMarks : List ℕ → List ℕ → Settings → List ℕ → Outcome

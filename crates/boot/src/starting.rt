@@ -1,8 +1,9 @@
 // The boot call: tests 1 to 3, then the four steps, and the reply.
 ghost use mathlib.Core.Path.{_≡_};
 ghost use lib.ListN.{length};
+ghost use Rattle.otadata.specs.Answers.{viewed};
 ghost use Rattle.boot_choice.specs.declared.Choice.the-variants.{Found};
-ghost use Rattle.boot.specs.Boot.{outcome, marked, usedSector, goodVerdict, anyGood, registerAfter, replyTo, fromMarks, boot as Boot·boot};
+ghost use Rattle.boot.specs.Boot.{view, outcome, marked, usedSector, goodVerdict, anyGood, registerAfter, replyTo, fromMarks, boot as Boot·boot};
 use crate::NOTHING_BOOTABLE;
 use crate::Refusal;
 use crate::Reply;
@@ -24,7 +25,7 @@ use sectors::Holder;
 
 // Decides which app the node starts, and changes the states of its records.
 pub fn boot(list: &[u32], flash: &[u8], otadata: &mut [u8], settings: Settings) -> Reply
-    ensures { λ r. ⌜ outcome r (now (otadata .exit)) ≡ Boot·boot (now (list .entry)) (now (flash .entry)) (now (otadata .entry)) settings ⌝ }
+    ensures { λ r. ⌜ outcome (viewed view r) (now (otadata .exit)) ≡ Boot·boot (now (list .entry)) (now (flash .entry)) (now (otadata .entry)) settings ⌝ }
 {
     let checked = accept(list, flash.len(), otadata.len(), settings);
     if let Checked::Refused(number) = checked {
@@ -39,7 +40,7 @@ pub fn boot(list: &[u32], flash: &[u8], otadata: &mut [u8], settings: Settings) 
 // The four steps.
 fn start(list: &[u32], flash: &[u8], otadata: &mut [u8], settings: Settings) -> Reply
     requires { ⌜ length (now otadata) ≡ 8192 ⌝ }
-    ensures { λ r. ⌜ outcome r (now (otadata .exit)) ≡ fromMarks (now (list .entry)) (now (flash .entry)) settings (marked settings (now (otadata .entry))) ⌝ }
+    ensures { λ r. ⌜ outcome (viewed view r) (now (otadata .exit)) ≡ fromMarks (now (list .entry)) (now (flash .entry)) settings (marked settings (now (otadata .entry))) ⌝ }
 {
     let readings = mark_aborted(otadata, settings);
     let choice = choose(list, flash, settings, readings);
@@ -61,7 +62,7 @@ fn used_sector(choice: Choice) -> Holder
 
 // The reply to a choice.
 fn reply_to(settings: Settings, readings: [Reading; 2], choice: Choice) -> Reply
-    ensures { λ r. ⌜ r ≡ replyTo settings readings choice ⌝ }
+    ensures { λ r. ⌜ viewed view r ≡ replyTo settings readings choice ⌝ }
 {
     match choice {
         Choice::Nothing => Reply::Refused(Refusal {

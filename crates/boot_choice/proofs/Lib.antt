@@ -1,3 +1,4 @@
+pub mod Examples
 pub mod FirstTests
 pub mod Order
 pub mod Tries

@@ -7,6 +7,9 @@ use mathlib.Core.List.{List, []}
 use native.Mathlib.Omega.{arith}
 use lib.Dec.{eqb}
 use lib.ListN.{length}
+use Rattle.otadata.specs.Answers.{Answer, Answered, viewed}
+use Rattle.otadata.proofs.Answers.{reply-of}
+use Rattle.otadata.specs.declared.Slot.{Slot}
 use Rattle.otadata.specs.declared.Verdict.{Verdict}
 use Rattle.otadata.specs.declared.Verdict.the-variants.{None as NotGood, Good}
 use Rattle.otadata.specs.declared.Reading.{Reading}
@@ -18,7 +21,7 @@ use Rattle.partitions.specs.declared.App.{App}
 use Rattle.partitions.specs.declared.Listing.{Listing}
 use Rattle.partitions.specs.declared.Checked.{Checked}
 use Rattle.partitions.specs.declared.Checked.the-variants.{Refused, Accepted}
-use Rattle.partitions.specs.PartitionList.{factorySubtype, timesListed, slotCount, right, checked}
+use Rattle.partitions.specs.PartitionList.{factorySubtype, timesListed, slotCount, right, view, checked}
 use Rattle.partitions.proofs.Answers.{of-no-list}
 use Rattle.app_image.specs.Check.{lengthTest, check}
 use Rattle.boot_choice.specs.declared.Settings.{Settings}
@@ -29,28 +32,36 @@ use Rattle.boot_choice.specs.Choice.{image, passing, chosen, throughVerd
 
 -- ---- what an accepted list holds
 
-same-listing : (b : Bool) (l m : Listing) → cond {A = Checked} b (Accepted l) (Refused 1) ≡ Accepted m → l ≡ m
-same-listing true l m e = cc
-same-listing false l m e = absurd (let z : _≡_ {A = ℕ} 0 1 = cc in omega arith)
+same-listing : (t : Bool) (a b : Answer) (l m : Listing)
+    → cond {A = Answered Checked} t (record { answer = a; reply = Accepted l }) (record { answer = b; reply = Refused 1 }) .reply ≡ Accepted m → l ≡ m
+same-listing true a b l m e = cc
+same-listing false a b l m e = absurd (let z : _≡_ {A = ℕ} 0 1 = cc in omega arith)
 
-module _ (list : List ℕ) (capacity : ℕ) (c : Checked) (found : c ≡ checked list capacity) (listing : Listing) (e : c ≡ Accepted listing) where
+pub slots-listed : (list : List ℕ) (capacity : ℕ) (listing : Listing) → checked list capacity .reply ≡ Accepted listing → listing .slots ≡ slotCount list
+unfolding checked
+slots-listed list capacity listing e = ap (λ (l : Listing). l .slots) (sym (same-listing (right list capacity) _ _ _ listing e))
+
+module _ (list : List ℕ) (capacity : ℕ) (c : Checked) (found : viewed view c ≡ checked list capacity) (listing : Listing) (e : c ≡ Accepted listing) where
+  is-accepted : checked list capacity .reply ≡ Accepted listing
+  is-accepted = reply-of view c _ found ∙ e
+
   pub listed-slots : listing .slots ≡ slotCount list
-  unfolding checked
-  listed-slots = ap (λ (l : Listing). l .slots) (sym (same-listing (right list capacity) _ listing (sym found ∙ e)))
+  listed-slots = slots-listed list capacity listing is-accepted
 
   pub listed-factory : listing .factory ≡ eqb (timesListed list factorySubtype) 1
   unfolding checked
-  listed-factory = ap (λ (l : Listing). l .factory) (sym (same-listing (right list capacity) _ listing (sym found ∙ e)))
+  listed-factory = ap (λ (l : Listing). l .factory) (sym (same-listing (right list capacity) _ _ _ listing is-accepted))
 
 -- ---- a list that is refused
 
-refused-by : (b : Bool) (l : Listing) (number : ℕ) → cond {A = Checked} b (Accepted l) (Refused 1) ≡ Refused number → b ≡ false
-refused-by true l number e = absurd (let z : _≡_ {A = ℕ} 0 1 = cc in omega arith)
-refused-by false l number e = refl
+refused-by : (t : Bool) (a b : Answer) (l : Listing) (number : ℕ)
+    → cond {A = Answered Checked} t (record { answer = a; reply = Accepted l }) (record { answer = b; reply = Refused 1 }) .reply ≡ Refused number → t ≡ false
+refused-by true a b l number e = absurd (let z : _≡_ {A = ℕ} 0 1 = cc in omega arith)
+refused-by false a b l number e = refl
 
-not-right : (list : List ℕ) (capacity number : ℕ) → checked list capacity ≡ Refused number → right list capacity ≡ false
+not-right : (list : List ℕ) (capacity number : ℕ) → checked list capacity .reply ≡ Refused number → right list capacity ≡ false
 unfolding checked
-not-right list capacity number e = refused-by (right list capacity) _ number e
+not-right list capacity number e = refused-by (right list capacity) _ _ _ number e
 
 either-way : {A : Type 0} (b : Bool) (x y z : A) → x ≡ z → y ≡ z → cond b x y ≡ z
 either-way true x y z e f = e
@@ -81,7 +92,7 @@ module _ (list flash : List ℕ) (settings : Settings) (wrong : right list (leng
   unfolding factory
   nothing-listed = either-way (eqb (timesListed list factorySubtype) 1) _ _ Nothing (simp none-passes) refl
 
-  not-candidate : (rs : List Reading) (s : ℕ) → candidate list flash settings rs s ≡ No
+  not-candidate : (rs : List Reading) (s : Slot) → candidate list flash settings rs s ≡ No
   unfolding candidate
   not-candidate rs s = either-way (barred (slotCount list) rs s) _ _ No refl (none-passes _)
 
@@ -94,10 +105,10 @@ module _ (list flash : List ℕ) (settings : Settings) (wrong : right list (leng
   unfolding choice throughRecords
   nothing-chosen rs = simp (nothing-held, nothing-listed, nothing-found)
 
-pub list-refused : (list flash : List ℕ) (settings : Settings) (rs : List Reading) (c : Checked) → c ≡ checked list (length flash)
+pub list-refused : (list flash : List ℕ) (settings : Settings) (rs : List Reading) (c : Checked) → viewed view c ≡ checked list (length flash)
     → (number : ℕ) → c ≡ Refused number → Nothing ≡ choice list flash settings rs
 list-refused list flash settings rs c found number e =
-    sym (nothing-chosen list flash settings (not-right list (length flash) number (sym found ∙ e)) rs)
+    sym (nothing-chosen list flash settings (not-right list (length flash) number (reply-of view c _ found ∙ e)) rs)
 
 -- ---- the order
 

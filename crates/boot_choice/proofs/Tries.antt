@@ -9,6 +9,8 @@ use lib.Dec.{eqb, ltb}
 use lib.ListN.{length, getD}
 use borrow.Author.Tests.{not-true, not-false}
 use denote.Ref.{RefT, now}
+use Rattle.otadata.specs.Answers.{viewed}
+use Rattle.otadata.proofs.Answers.{reply-of}
 use Rattle.otadata.specs.declared.Slot.{Slot}
 use Rattle.otadata.specs.declared.Sequence.{Sequence}
 use Rattle.otadata.specs.declared.State.{State}
@@ -20,6 +22,7 @@ use Rattle.sectors.specs.declared.Holder.the-variants.{None, Sector}
 use Rattle.otadata.specs.Records.{usableState, usableVerdict, usable, namesSlot, noReading}
 use Rattle.sectors.specs.Sectors.{active, Part, part}
 use Rattle.sectors.proofs.Activity.{default, active-below-two}
+use Rattle.efuse.specs.declared.SecureVersion.{SecureVersion}
 use Rattle.efuse.specs.Register.{width, version}
 use Rattle.partitions.specs.declared.App.{App}
 use Rattle.partitions.specs.declared.App.the-variants.{Factory as FactoryApp, OtaSlot}
@@ -28,7 +31,7 @@ use Rattle.app_image.specs.declared.Facts.{Facts}
 use Rattle.app_image.specs.declared.Refusal.{Refusal}
 use Rattle.app_image.specs.declared.Checked.{Checked}
 use Rattle.app_image.specs.declared.Checked.the-variants.{Refused, Accepted}
-use Rattle.app_image.specs.Check.{check}
+use Rattle.app_image.specs.Check.{view, check}
 use Rattle.boot_choice.specs.declared.Settings.{Settings}
 use Rattle.boot_choice.specs.declared.Passing.{Passing}
 use Rattle.boot_choice.specs.declared.Passing.the-variants.{No, Yes}
@@ -38,11 +41,11 @@ use Rattle.boot_choice.specs.Choice.{image, tooOld, passing, chosen, orE
 
 -- ---- the eFuse version
 
-module _ (settings : Settings) (v : ℕ) where
+module _ (settings : Settings) (v : SecureVersion) where
   pub no-version-asked : not (settings .«anti_rollback») ≡ true → false ≡ tooOld settings v
   no-version-asked n = simp (not-true (settings .«anti_rollback») n)
 
-  pub version-decides : not (settings .«anti_rollback») ≡ false → (e : ℕ) → e ≡ version width (settings .efuse) → ltb v e ≡ tooOld settings v
+  pub version-decides : not (settings .«anti_rollback») ≡ false → (e : SecureVersion) → e .0 ≡ version width (settings .efuse) → ltb (v .0) (e .0) ≡ tooOld settings v
   version-decides y e counted = simp (counted, not-false (settings .«anti_rollback») y)
 
 -- ---- passing
@@ -63,16 +66,17 @@ same-image list flash app =
     flash
 
 module _ (list : List ℕ) (flash : RefT (List ℕ)) (settings : Settings) (app : App)
-    (handed : RefT (List ℕ)) (by-list : part handed ≡ appPart list (part flash) app) (c : Checked) (found : c ≡ check (now handed) (settings .chip)) where
-  pub checked-image : check (image list (now flash) app) (settings .chip) ≡ c
+    (handed : RefT (List ℕ)) (by-list : part handed ≡ appPart list (part flash) app) (c : Checked) (found : viewed view c ≡ check (now handed) (settings .chip)) where
+  pub checked-image : check (image list (now flash) app) (settings .chip) .reply ≡ c
   checked-image =
-      sym (found ∙ ap (λ (p : Part). check (p .content) (settings .chip)) by-list ∙ ap (λ (s : List ℕ). check s (settings .chip)) (same-image list (part flash) app))
+      reply-of view c _
+      (found ∙ ap (λ (p : Part). check (p .content) (settings .chip)) by-list ∙ ap (λ (s : List ℕ). check s (settings .chip)) (same-image list (part flash) app))
 
   pub image-refused : (refusal : Refusal) → c ≡ Refused refusal → No ≡ passing list (now flash) settings app
   unfolding passing
   image-refused refusal e = simp (checked-image, e)
 
-  module _ (facts : Facts) (e : c ≡ Accepted facts) (t : Bool) (tested : t ≡ tooOld settings (facts .version .0)) where
+  module _ (facts : Facts) (e : c ≡ Accepted facts) (t : Bool) (tested : t ≡ tooOld settings (facts .version)) where
     pub version-too-old : t ≡ true → No ≡ passing list (now flash) settings app
     unfolding passing
     version-too-old y = simp (checked-image, e, ← tested, y)
@@ -98,9 +102,6 @@ module _ (list flash : List ℕ) (settings : Settings) (listed : Bool) (is : lis
     unfolding factory
     factory-passes facts e = simp (← is, not-false listed y, ← tried, e)
 
-abbrev numbered : ℕ → Slot
-numbered s = record { 0 = s }
-
 -- the slot that a record names
 module _ (list flash : List ℕ) (settings : Settings) (r : Reading) (k : ℕ) (t : Bool) (tested : t ≡ usable r) where
   pub not-usable : not t ≡ true → Nothing ≡ throughRecord list flash settings k r
@@ -112,10 +113,10 @@ module _ (list flash : List ℕ) (settings : Settings) (r : Reading) (k : ℕ) (
   not-good e = simp e
 
   module _ (y : not t ≡ false) (q : Sequence) (state : State) (e : r .verdict ≡ Good q state)
-      (n : ℕ) (slots : n ≡ slotCount list) (slot : Slot) (named : slot .0 ≡ namesSlot n (q .0))
+      (n : ℕ) (slots : n ≡ slotCount list) (slot : Slot) (named : slot ≡ namesSlot n q)
       (p : Passing) (tried : p ≡ passing list flash settings (OtaSlot slot)) where
     same-slot : namedSlot list q ≡ slot
-    same-slot = ap numbered (sym (named ∙ ap (λ (m : ℕ). namesSlot m (q .0)) slots))
+    same-slot = sym (named ∙ ap (λ (m : ℕ). namesSlot m q) slots)
 
     is-usable : usableState state ≡ true
     is-usable = sym (ap usableVerdict e) ∙ sym tested ∙ not-false t y
@@ -157,16 +158,16 @@ module _ (list flash : List ℕ) (settings : Settings) (rs : List Reading) (h : 
 
 -- ---- the last search
 
-usable-bars-none : (v : Verdict) (n s : ℕ) → usableVerdict v ≡ true → false ≡ verdictBars n s v
+usable-bars-none : (v : Verdict) (n : ℕ) (s : Slot) → usableVerdict v ≡ true → false ≡ verdictBars n s v
 usable-bars-none NotGood n s y = refl
 usable-bars-none (Good q state) n s y = simp y
 
-module _ (r : Reading) (n s : ℕ) (t : Bool) (tested : t ≡ usable r) where
+module _ (r : Reading) (n : ℕ) (s : Slot) (t : Bool) (tested : t ≡ usable r) where
   pub usable-bars : t ≡ true → false ≡ verdictBars n s (r .verdict)
   usable-bars y = usable-bars-none (r .verdict) n s (sym tested ∙ y)
 
   pub name-decides : t ≡ false → (q : Sequence) (state : State) → r .verdict ≡ Good q state
-      → (slot : Slot) → slot .0 ≡ namesSlot n (q .0) → eqb (slot .0) s ≡ verdictBars n s (r .verdict)
+      → (slot : Slot) → slot ≡ namesSlot n q → eqb (slot .0) (s .0) ≡ verdictBars n s (r .verdict)
   name-decides f q state e slot named =
       let u : usableState state ≡ false = sym (ap usableVerdict e) ∙ sym tested ∙ f in
       simp (e, u, named)
@@ -182,7 +183,7 @@ module _ (so : Verdict → Bool) (rs : List Reading) (size : length rs ≡ 2) (d
   pub second-decides : (t : Bool) → t ≡ so (getD rs 0 d .verdict) → t ≡ false → (u : Bool) → u ≡ so (getD rs 1 d .verdict) → u ≡ ofEither so rs
   second-decides t tested f u e = sym (by-verdicts ∙ simp (← tested, f, ← e))
 
-module _ (rs : List Reading) (size : length rs ≡ 2) (d : Reading) (n s : ℕ) (t : Bool) (tested : t ≡ verdictBars n s (getD rs 0 d .verdict)) where
+module _ (rs : List Reading) (size : length rs ≡ 2) (d : Reading) (n : ℕ) (s : Slot) (t : Bool) (tested : t ≡ verdictBars n s (getD rs 0 d .verdict)) where
   pub first-bars : t ≡ true → true ≡ barred n rs s
   unfolding barred
   first-bars = first-is-so (verdictBars n s) rs size d t tested
@@ -192,12 +193,12 @@ module _ (rs : List Reading) (size : length rs ≡ 2) (d : Reading) (n s : ℕ) 
   second-bars = second-decides (verdictBars n s) rs size d t tested
 
 module _ (list flash : List ℕ) (settings : Settings) (rs : List Reading) (n : ℕ) where
-  module _ (slots : n ≡ slotCount list) (slot : Slot) (t : Bool) (tested : t ≡ barred n rs (slot .0)) where
-    pub slot-barred : t ≡ true → No ≡ candidate list flash settings rs (slot .0)
+  module _ (slots : n ≡ slotCount list) (slot : Slot) (t : Bool) (tested : t ≡ barred n rs slot) where
+    pub slot-barred : t ≡ true → No ≡ candidate list flash settings rs slot
     unfolding candidate
     slot-barred y = simp (← slots, ← tested, y)
 
-    pub slot-tried : t ≡ false → (p : Passing) → p ≡ passing list flash settings (OtaSlot slot) → p ≡ candidate list flash settings rs (slot .0)
+    pub slot-tried : t ≡ false → (p : Passing) → p ≡ passing list flash settings (OtaSlot slot) → p ≡ candidate list flash settings rs slot
     unfolding candidate
     slot-tried f p e = e ∙ simp (← slots, ← tested, f)
 
@@ -216,7 +217,7 @@ module _ (list flash : List ℕ) (settings : Settings) (rs : List Reading) (n : 
       let none : n - s ≡ 0 = omega arith in
       sym (ap (searchFrom list flash settings rs s) none) ∙ left
 
-  module _ (s : ℕ) (l : s < n) (left : Left s) (p : Passing) (tried : p ≡ candidate list flash settings rs s) where
+  module _ (s : ℕ) (l : s < n) (left : Left s) (p : Passing) (tried : p ≡ candidate list flash settings rs (record { 0 = s })) where
     one-more : orElse (ifPasses (Found (record { 0 = s })) p) (searchFrom list flash settings rs (s + 1) (n - (s + 1))) ≡ search list flash settings rs
     unfolding searchFrom
     one-more =

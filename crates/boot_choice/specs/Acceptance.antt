@@ -24,7 +24,7 @@ contradictory settings listing = settings .«anti_rollback» && (not (settings .
 
 -- tests 1 and 2: the list and the flash's capacity, then the size of otadata
 unfoldable pub acceptedNode : List ℕ → ℕ → ℕ → Checked
-acceptedNode list capacity size = refuseIf (λ (listing : Listing). not (eqb size otadataSize)) 2 (checked list capacity)
+acceptedNode list capacity size = refuseIf (λ (listing : Listing). not (eqb size otadataSize)) 2 (checked list capacity .reply)
 
 -- and test 3, of the settings
 unfoldable pub accepted : List ℕ → ℕ → ℕ → Settings → Checked

@@ -14,6 +14,7 @@ use Rattle.sectors.specs.declared.Holder.{Holder}
 use Rattle.sectors.specs.declared.Holder.the-variants.{None, Sector}
 use Rattle.otadata.specs.Records.{usableState, usable, namesSlot, noReading}
 use Rattle.sectors.specs.Sectors.{active}
+use Rattle.efuse.specs.declared.SecureVersion.{SecureVersion}
 use Rattle.efuse.specs.Register.{width, version}
 use Rattle.partitions.specs.declared.App.{App}
 use Rattle.partitions.specs.declared.App.the-variants.{Factory as FactoryApp, OtaSlot}
@@ -35,17 +36,17 @@ abbrev pub image : List ℕ → List ℕ → App → List ℕ
 image list flash app = appPart list (record { place = (0, 0); content = flash }) app .content
 
 -- with anti-rollback on, a version below the eFuse version
-abbrev pub tooOld : Settings → ℕ → Bool
-tooOld settings v = settings .«anti_rollback» && ltb v (version width (settings .efuse))
+abbrev pub tooOld : Settings → SecureVersion → Bool
+tooOld settings v = settings .«anti_rollback» && ltb (v .0) (version width (settings .efuse))
 
 -- the answer of the image check, held to the eFuse version
 abbrev pub held : Settings → Checked → Passing
 held settings (Refused refusal) = No
-held settings (Accepted facts) = cond (tooOld settings (facts .version .0)) No (Yes facts)
+held settings (Accepted facts) = cond (tooOld settings (facts .version)) No (Yes facts)
 
 -- document 01's term *passes*: the image is accepted and, with anti-rollback on, its secure version is at least the eFuse version
 unfoldable pub passing : List ℕ → List ℕ → Settings → App → Passing
-passing list flash settings app = held settings (check (image list flash app) (settings .chip))
+passing list flash settings app = held settings (check (image list flash app) (settings .chip) .reply)
 
 -- it does pass
 abbrev pub passed : Passing → Bool
@@ -74,7 +75,7 @@ ifPasses choice (Yes facts) = choice facts
 
 -- the slot that a good record of that sequence names
 abbrev pub namedSlot : List ℕ → Sequence → Slot
-namedSlot list q = record { 0 = namesSlot (slotCount list) (q .0) }
+namedSlot list q = namesSlot (slotCount list) q
 
 -- the slot that the record of sector k names
 abbrev pub throughVerdict : List ℕ → List ℕ → Settings → ℕ → Verdict → Choice
@@ -105,28 +106,29 @@ factory list flash settings =
 -- ---- the last search
 
 -- an invalid or aborted record names slot s, with n slots
-abbrev pub verdictBars : ℕ → ℕ → Verdict → Bool
+abbrev pub verdictBars : ℕ → Slot → Verdict → Bool
 verdictBars n s NotGood = false
-verdictBars n s (Good q state) = not (usableState state) && eqb (namesSlot n (q .0)) s
+verdictBars n s (Good q state) = not (usableState state) && eqb (namesSlot n q .0) (s .0)
 
 -- of one of the two records it is so
 abbrev pub ofEither : (Verdict → Bool) → List Reading → Bool
 ofEither so rs = so (getD rs 0 noReading .verdict) || so (getD rs 1 noReading .verdict)
 
-unfoldable pub barred : ℕ → List Reading → ℕ → Bool
+unfoldable pub barred : ℕ → List Reading → Slot → Bool
 barred n rs s = ofEither (verdictBars n s) rs
 
 -- a slot that no invalid or aborted record names, and that passes
-unfoldable pub candidate : List ℕ → List ℕ → Settings → List Reading → ℕ → Passing
+unfoldable pub candidate : List ℕ → List ℕ → Settings → List Reading → Slot → Passing
 candidate list flash settings rs s =
-    cond (barred (slotCount list) rs s) No (passing list flash settings (OtaSlot (record { 0 = s })))
+    cond (barred (slotCount list) rs s) No (passing list flash settings (OtaSlot s))
 
 -- the first of the k slots from s on, counted upward
 unfoldable pub searchFrom : List ℕ → List ℕ → Settings → List Reading → ℕ → ℕ → Choice
 searchFrom list flash settings rs s zero = Nothing
 searchFrom list flash settings rs s (suc k) =
+    let slot : Slot = record { 0 = s } in
     orElse
-    (ifPasses (Found (record { 0 = s })) (candidate list flash settings rs s))
+    (ifPasses (Found slot) (candidate list flash settings rs slot))
     (searchFrom list flash settings rs (s + 1) k)
 
 -- from slot 0, over all of them

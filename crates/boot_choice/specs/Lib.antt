@@ -1,2 +1,3 @@
 pub mod Acceptance
 pub mod Choice
+pub mod Example

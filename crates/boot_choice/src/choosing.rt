@@ -37,7 +37,7 @@ pub fn passes(list: &[u32], flash: &[u8], settings: Settings, app: App) -> Passi
 
 // Whether a version is below the eFuse version, with anti-rollback on.
 pub fn too_old(settings: Settings, of: SecureVersion) -> bool
-    ensures { λ r. ⌜ r ≡ tooOld settings (of .0) ⌝ }
+    ensures { λ r. ⌜ r ≡ tooOld settings of ⌝ }
 {
     if !settings.anti_rollback {
         return false;
@@ -170,7 +170,7 @@ fn candidate(
     slot: Slot,
 ) -> Passing
     requires { ⌜ n ≡ slotCount (now list) ⌝ }
-    ensures { λ r. ⌜ r ≡ Choice·candidate (now (list .entry)) (now (flash .entry)) settings readings (slot .0) ⌝ }
+    ensures { λ r. ⌜ r ≡ Choice·candidate (now (list .entry)) (now (flash .entry)) settings readings slot ⌝ }
 {
     if barred(readings, n, slot) {
         return Passing::No;
@@ -180,7 +180,7 @@ fn candidate(
 
 // Whether an invalid or aborted record names the slot, with n slots.
 fn barred(readings: [Reading; 2], n: u32, slot: Slot) -> bool
-    ensures { λ r. ⌜ r ≡ Choice·barred n readings (slot .0) ⌝ }
+    ensures { λ r. ⌜ r ≡ Choice·barred n readings slot ⌝ }
 {
     if bars(readings[0], n, slot) {
         return true;
@@ -190,7 +190,7 @@ fn barred(readings: [Reading; 2], n: u32, slot: Slot) -> bool
 
 // Whether this record is invalid or aborted, and names the slot.
 fn bars(reading: Reading, n: u32, slot: Slot) -> bool
-    ensures { λ r. ⌜ r ≡ verdictBars n (slot .0) (reading .verdict) ⌝ }
+    ensures { λ r. ⌜ r ≡ verdictBars n slot (reading .verdict) ⌝ }
 {
     if usable(reading) {
         return false;

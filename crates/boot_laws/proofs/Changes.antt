@@ -6,7 +6,7 @@ use mathlib.Core.Bool.{Bool, true, false, cond, _&&_}
 use mathlib.Core.List.{List}
 use mathlib.Core.Logic.{_⊎_, inl, inr, ⊎-elim}
 use native.Mathlib.Omega.{arith}
-use lib.ListN.{length}
+use lib.ListN.{length, getD}
 use borrow.Author.Tests.{eqb-true}
 use Rattle.otadata.specs.declared.Sequence.{Sequence}
 use Rattle.otadata.specs.declared.State.{State}
@@ -16,8 +16,8 @@ use Rattle.otadata.specs.declared.Verdict.the-variants.{None as NotGood, Good}
 use Rattle.otadata.specs.declared.Reading.{Reading}
 use Rattle.sectors.specs.declared.Holder.{Holder}
 use Rattle.sectors.specs.declared.Holder.the-variants.{None, Sector}
-use Rattle.otadata.specs.Records.{stateOf, inState}
-use Rattle.sectors.specs.Sectors.{sectorReading, sectorAt, withState}
+use Rattle.otadata.specs.Records.{stateOf, usableVerdict, usable, inState, noReading}
+use Rattle.sectors.specs.Sectors.{sectorReading, active, sectorAt, readingsOf, withState}
 use Rattle.otadata.proofs.Booleans.{true-is-not-false, both}
 use Rattle.sectors.proofs.Restating.{state-of-word}
 use Rattle.boot_choice.specs.declared.Settings.{Settings}
@@ -25,7 +25,8 @@ use Rattle.boot_choice.specs.declared.Choice.{Choice}
 use Rattle.boot.specs.Boot.{markedAt, marked, usedSector, awaiting}
 use Rattle.boot.proofs.ChoiceLaws.{Sound, nothing, through, by-factory, found}
 use Rattle.boot.proofs.Marking.{marked-at-size}
-use Rattle.sectors.proofs.TwoSectors.{two, with-state-reading, tested-size, tested-other}
+use Rattle.sectors.proofs.Activity.{two, this-or-other, stays-active}
+use Rattle.sectors.proofs.TwoSectors.{readings-at, with-state-reading, tested-size, tested-other}
 
 -- with rollback on, t is a sector with the record of s changed from one state to the other
 pub record Restates (settings : Settings) (old now : State) (s t : List ℕ) : Type 0 where
@@ -38,6 +39,9 @@ pub record Restates (settings : Settings) (old now : State) (s t : List ℕ) : T
 -- a sector keeps its bytes, or its record is changed so
 abbrev pub KeptOr : Settings → State → State → List ℕ → List ℕ → Type 0
 KeptOr settings old now s t = (t ≡ s) ⊎ Restates settings old now s t
+
+pub same-good : {q q′ : Sequence} {s s′ : State} → Good q s ≡ Good q′ s′ → (q ≡ q′) × (s ≡ s′)
+same-good e = (cc, cc)
 
 -- ---- a change of the records in one state
 
@@ -90,17 +94,46 @@ module _ (settings : Settings) (o : List ℕ) where
       (subst (λ (s : List ℕ). KeptOr settings Pending Aborted s (sectorAt 1 (marked settings o))) (mark-other settings 0 (omega arith) o size)
       (mark-own settings 1 (omega arith) first first-size))
 
+  -- a sector without a pending record, while rollback is on, is left alone
+  pub unmarked : length o ≡ 8192 → (k : ℕ) → k < 2
+      → (settings .rollback ≡ true → (q : Sequence) → sectorReading (sectorAt k o) .verdict ≡ Good q Pending → ⊥)
+      → sectorAt k (marked settings o) ≡ sectorAt k o
+  unmarked size k l not-pending =
+      ⊎-elim
+      (λ (same : sectorAt k (marked settings o) ≡ sectorAt k o). same)
+      (λ (r : Restates settings Pending Aborted (sectorAt k o) (sectorAt k (marked settings o))).
+      absurd (not-pending (r .rollback) (r .sequence) (r .was)))
+      (marks size k l)
+
+  -- so is a record in another state
+  module _ (size : length o ≡ 8192) (k : ℕ) (l : k < 2) (q : Sequence) (state : State) (holds : sectorReading (sectorAt k o) .verdict ≡ Good q state)
+      (not-pending : settings .rollback ≡ true → state ≡ Pending → ⊥) where
+    pub left-alone : sectorAt k (marked settings o) ≡ sectorAt k o
+    left-alone =
+        unmarked size k l
+        (λ (on : settings .rollback ≡ true) (p : Sequence) (pending : sectorReading (sectorAt k o) .verdict ≡ Good p Pending).
+        not-pending on (same-good (sym holds ∙ pending) .1))
+
+    -- and where it is active, it is so after the marks
+    pub still-active : active (readingsOf o) ≡ Sector k → active (readingsOf (marked settings o)) ≡ Sector k
+    still-active is =
+        stays-active (readingsOf o) (readingsOf (marked settings o)) k is
+        (at k l ∙ ap sectorReading left-alone ∙ sym (readings-at k l o noReading))
+        (⊎-elim
+        (λ (same : sectorAt (1 - k) (marked settings o) ≡ sectorAt (1 - k) o).
+        inl (at (1 - k) (omega arith) ∙ ap sectorReading same ∙ sym (readings-at (1 - k) (omega arith) o noReading)))
+        (λ (r : Restates settings Pending Aborted (sectorAt (1 - k) o) (sectorAt (1 - k) (marked settings o))).
+        inr (ap usable (at (1 - k) (omega arith)) ∙ ap usableVerdict (r .is)))
+        (marks size (1 - k) (omega arith)))
+      where
+        at : (j : ℕ) → j < 2 → getD (readingsOf (marked settings o)) j noReading ≡ sectorReading (sectorAt j (marked settings o))
+        at j below = readings-at j below (marked settings o) noReading
+
   pub no-marks : settings .rollback ≡ false → marked settings o ≡ o
   unfolding markedAt
   no-marks off = simp off
 
 -- ---- step 3
-
-this-or-other : (j : ℕ) → j < 2 → (k : ℕ) → k < 2 → (k ≡ j) ⊎ (k ≡ 1 - j)
-this-or-other =
-    two (λ (j : ℕ). (k : ℕ) → k < 2 → (k ≡ j) ⊎ (k ≡ 1 - j))
-    (two (λ (k : ℕ). (k ≡ 0) ⊎ (k ≡ 1)) (inl refl) (inr refl))
-    (two (λ (k : ℕ). (k ≡ 1) ⊎ (k ≡ 0)) (inr refl) (inl refl))
 
 module _ (list flash : List ℕ) (settings : Settings) (rs : List Reading) (o : List ℕ) where
   pub awaits : length o ≡ 8192 → {made : Choice} → Sound list flash settings rs made

@@ -27,8 +27,8 @@ use Rattle.boot.specs.declared.Start.{Start}
 use Rattle.boot.specs.declared.Refusal.{Refusal}
 use Rattle.boot.specs.declared.Reply.the-variants.{Refused, Starts}
 use Rattle.boot_choice.specs.Choice.{image, passing, choice}
-use Rattle.boot.specs.Boot.{Outcome, outcome, marked, usedSector, awaiting, replyTo, fromMarks, byTests, refused, boot, passedTests, Accepts}
-use Rattle.boot_laws.specs.Laws.{UsableAt, ThroughUsable, NotBelow, StartsNotBelow, Never, NeverLaw, AcceptanceLaw, RefusalKeeps, RefusalLaw, Change, OtherState, OnlyStates, StateLaw}
+use Rattle.boot.specs.Boot.{view, Outcome, outcome, marked, usedSector, awaiting, replyTo, fromMarks, byTests, refused, boot, passedTests, Accepts}
+use Rattle.boot_laws.specs.Laws.{UsableAt, ThroughUsable, NotBelow, StartsNotBelow, Never, NeverLaw, ViewLaw, AcceptanceLaw, RefusalKeeps, RefusalLaw, Change, OtherState, OnlyStates, StateLaw}
 use Rattle.boot.proofs.ChoiceLaws.{held-by, Sound, nothing, through, by-factory, found, choice-sound}
 use Rattle.boot_laws.proofs.Changes.{Restates, KeptOr, marks, no-marks, awaits, awaiting-size, no-awaiting}
 use Rattle.boot.proofs.Replies.{afterMarks, replies}
@@ -42,7 +42,7 @@ not-below : (list flash : List ℕ) (settings : Settings) (app : App) (facts : F
     → passing list flash settings app ≡ Yes facts → NotBelow list flash settings app
 unfolding passing
 not-below list flash settings app facts e =
-    let (is, right) = held-by settings (check (image list flash app) (settings .chip)) facts e in
+    let (is, right) = held-by settings (check (image list flash app) (settings .chip) .reply) facts e in
     record {
       facts = facts;
       accepted = is;
@@ -142,9 +142,24 @@ never-law list flash o settings =
     (λ (size : length o ≡ 8192) (made : Choice) (m : SoundAfterMarks list flash o settings made).
     record { through-usable = through-usable list flash o settings size m; not-below = starts-not-below list flash o settings m })
 
+-- ---- the number and the values of a reply
+
+view-of : (settings : Settings) (rs : List Reading) (made : Choice) → replyTo settings rs made .answer ≡ view (replyTo settings rs made .reply)
+view-of settings rs Nothing = refl
+view-of settings rs (Through k slot facts) = refl
+view-of settings rs (Factory facts) = refl
+view-of settings rs (Found slot facts) = refl
+
+pub view-law : ViewLaw
+unfolding ViewLaw
+view-law list flash o settings =
+    every-boot list flash o settings (λ (out : Outcome). out .answer ≡ view (out .reply))
+    (λ (number : ℕ) (l : OneToThree number). refl)
+    (λ (size : length o ≡ 8192) (made : Choice) (m : SoundAfterMarks list flash o settings made). view-of settings (readingsOf (marked settings o)) made)
+
 -- ---- when a boot is refused
 
-ten : (settings : Settings) (rs : List Reading) (made : Choice) (refusal : Refusal) → replyTo settings rs made ≡ Refused refusal → refusal .number ≡ 10
+ten : (settings : Settings) (rs : List Reading) (made : Choice) (refusal : Refusal) → replyTo settings rs made .reply ≡ Refused refusal → refusal .number ≡ 10
 ten settings rs Nothing refusal e = ap (λ (r : Refusal). r .number) (same-refusal (sym e))
 ten settings rs (Through k slot facts) refusal e = absurd (no-start (sym e))
 ten settings rs (Factory facts) refusal e = absurd (no-start (sym e))
@@ -187,7 +202,7 @@ unfolding RefusalLaw
 refusal-law list flash o settings refusal =
     every-boot list flash o settings
     (λ (out : Outcome). out .reply ≡ Refused refusal → RefusalKeeps o settings refusal (out .otadata))
-    (λ (number : ℕ) (l : OneToThree number) (e : refused settings number ≡ Refused refusal).
+    (λ (number : ℕ) (l : OneToThree number) (e : refused settings number .reply ≡ Refused refusal).
     let same = same-refusal e in
     let n = ap (λ (r : Refusal). r .number) same in
     record {

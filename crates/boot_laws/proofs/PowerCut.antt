@@ -8,9 +8,6 @@ use native.Mathlib.Omega.{arith}
 use lib.ListN.{length, getD, take, length-append}
 use lib.Seq.{take-at, drop-at, take-all}
 use Rattle.otadata.specs.declared.Sequence.{Sequence}
-use Rattle.otadata.specs.declared.State.{State}
-use Rattle.otadata.specs.declared.State.the-variants.{Pending, Aborted}
-use Rattle.otadata.specs.declared.Verdict.the-variants.{Good}
 use Rattle.otadata.specs.declared.Reading.{Reading}
 use Rattle.sectors.specs.declared.Holder.the-variants.{Sector}
 use Rattle.otadata.specs.Records.{noReading}
@@ -21,6 +18,7 @@ use Rattle.sectors.proofs.ReadingLaw.{reading-law, after-size}
 use Rattle.partitions.specs.declared.App.the-variants.{OtaSlot}
 use Rattle.app_image.specs.declared.Facts.{Facts}
 use Rattle.boot_choice.specs.declared.Settings.{Settings}
+use Rattle.boot_choice.specs.declared.Choice.{Choice}
 use Rattle.boot_choice.specs.declared.Passing.{Passing}
 use Rattle.boot_choice.specs.declared.Passing.the-variants.{No, Yes}
 use Rattle.boot_choice.specs.declared.Choice.the-variants.{Through}
@@ -30,11 +28,12 @@ use Rattle.boot_choice.specs.Choice.{passing, passed, namedSlot, choice}
 use Rattle.boot.specs.Boot.{marked, registerAfter, replyTo, boot, Accepts}
 use Rattle.boot_laws.specs.Laws.{NeverLaw}
 use Rattle.boot_laws.specs.PowerCut.{otadataOf, Untouched, Prevails, StartsRecord, Demand3}
-use Rattle.boot_laws.proofs.Changes.{Restates, marks}
+use Rattle.boot_laws.proofs.Changes.{same-good, left-alone}
 use Rattle.boot_laws.proofs.Laws.{same-start, same-sector, never-law}
 use Rattle.boot.proofs.Replies.{afterMarks, replies}
 use Rattle.boot.proofs.ThroughRecords.{UsableOf, active-or, passed-facts, through-active, through-other}
-use Rattle.sectors.proofs.TwoSectors.{two, readings-at}
+use Rattle.sectors.proofs.Activity.{two}
+use Rattle.sectors.proofs.TwoSectors.{readings-at}
 
 -- ---- the two sectors side by side
 
@@ -49,11 +48,18 @@ module _ (a b : List ℕ) (size-a : length a ≡ 4096) (size-b : length b ≡ 40
   both-size = simp length-append (omega arith)
 
 module _ (p : ℕ) (l : p < 2) (own other : List ℕ) (own-size : length own ≡ 4096) (other-size : length other ≡ 4096) where
-  otadata-size : length (otadataOf p own other) ≡ 8192
+  pub otadata-size : length (otadataOf p own other) ≡ 8192
   otadata-size =
       two (λ (i : ℕ). length (otadataOf i own other) ≡ 8192) (both-size own other own-size other-size) (both-size other own other-size own-size) p l
 
-  other-sector : sectorAt (1 - p) (otadataOf p own other) ≡ other
+  pub own-sector : sectorAt p (otadataOf p own other) ≡ own
+  own-sector =
+      two (λ (i : ℕ). sectorAt i (otadataOf i own other) ≡ own)
+      (first-sector own other own-size other-size)
+      (second-sector other own other-size own-size)
+      p l
+
+  pub other-sector : sectorAt (1 - p) (otadataOf p own other) ≡ other
   other-sector =
       two (λ (i : ℕ). sectorAt (1 - i) (otadataOf i own other) ≡ other)
       (second-sector own other own-size other-size)
@@ -64,15 +70,12 @@ module _ (p : ℕ) (l : p < 2) (own other : List ℕ) (own-size : length own ≡
 
 module _ (list flash o : List ℕ) (settings : Settings) (accepts : Accepts list (length flash) (length o) settings) where
   -- a choice through a record is a start of that record's app
-  starts-record : (k : ℕ) (q : Sequence) (facts : Facts) → choice list flash settings (afterMarks settings o) ≡ Through k (namedSlot list q) facts
+  pub starts-record : (k : ℕ) (q : Sequence) (facts : Facts) → choice list flash settings (afterMarks settings o) ≡ Through k (namedSlot list q) facts
       → StartsRecord list settings (boot list flash o settings .reply) k q
   unfolding registerAfter
-  starts-record k q facts e = replies list flash o settings accepts ∙ ap (replyTo settings (afterMarks settings o)) e
+  starts-record k q facts e = replies list flash o settings accepts ∙ ap (λ (c : Choice). replyTo settings (afterMarks settings o) c .reply) e
 
 -- ---- which record boot starts
-
-same-good : {q q′ : Sequence} {s s′ : State} → Good q s ≡ Good q′ s′ → (q ≡ q′) × (s ≡ s′)
-same-good e = (cc, cc)
 
 -- the record of sector p prevails and is started, or it doesn't and the other one, of sequence u, is
 module _ (list flash o : List ℕ) (settings : Settings) (p : ℕ) (u : Sequence) where
@@ -105,14 +108,11 @@ module _ (list flash o : List ℕ) (settings : Settings) (size : length o ≡ 81
   readings = afterMarks settings o
 
   -- the aborted marks leave it alone
-  unmarked : sectorAt (1 - p) (marked settings o) ≡ other
-  unmarked =
-      ⊎-elim
-      (λ (same : sectorAt (1 - p) (marked settings o) ≡ sectorAt (1 - p) o). same ∙ there)
-      (λ (r : Restates settings Pending Aborted (sectorAt (1 - p) o) (sectorAt (1 - p) (marked settings o))).
-      let was-pending = sym (untouched .holds) ∙ ap (λ (s : List ℕ). sectorReading s .verdict) (sym there) ∙ r .was in
-      absurd (untouched .not-pending (r .rollback) (same-good was-pending .1)))
-      (marks settings o size (1 - p) (omega arith))
+  other-unmarked : sectorAt (1 - p) (marked settings o) ≡ other
+  other-unmarked =
+      left-alone settings o size (1 - p) (omega arith) u (untouched .state)
+      (ap (λ (s : List ℕ). sectorReading s .verdict) there ∙ untouched .holds) (untouched .not-pending)
+      ∙ there
 
   verdict-at : (k : ℕ) → k < 2 → getD readings k noReading .verdict ≡ sectorReading (sectorAt k (marked settings o)) .verdict
   verdict-at k below = ap (λ (r : Reading). r .verdict) (readings-at k below (marked settings o) noReading)
@@ -121,7 +121,7 @@ module _ (list flash o : List ℕ) (settings : Settings) (size : length o ≡ 81
   other-usable =
       record {
         state = untouched .state;
-        holds = verdict-at (1 - p) (omega arith) ∙ ap (λ (s : List ℕ). sectorReading s .verdict) unmarked ∙ untouched .holds;
+        holds = verdict-at (1 - p) (omega arith) ∙ ap (λ (s : List ℕ). sectorReading s .verdict) other-unmarked ∙ untouched .holds;
         usable = untouched .usable;
       }
 
@@ -164,15 +164,17 @@ module _ (list flash o : List ℕ) (settings : Settings) (size : length o ≡ 81
 
 pub demand-3 : Demand3
 unfolding Demand3 ReadingLaw NeverLaw
-demand-3 start calls before rec k h p l list flash settings accepts other u untouched =
+demand-3 start calls before rec k p list flash settings other u given =
     let left = after calls start in
     let o = otadataOf p left other in
-    let left-size = after-size start calls before rec k h in
+    let l = given .sector in
+    let untouched = given .untouched in
+    let left-size = after-size start calls before rec k (given .history) in
     let size = otadata-size p l left other left-size (untouched .size) in
     let there = other-sector p l left other left-size (untouched .size) in
-    let accepts-o = subst (λ (n : ℕ). Accepts list (length flash) n settings) (sym size) accepts in
-    let either = which-starts list flash o settings size accepts-o p l other u untouched there in
-    let reads = reading-law start calls before rec k h in
+    let accepts = subst (λ (n : ℕ). Accepts list (length flash) n settings) (sym size) (given .accepts) in
+    let either = which-starts list flash o settings size accepts p l other u untouched there in
+    let reads = reading-law start calls before rec k (given .history) in
     record {
       reads = reads .one-of;
       finished = reads .finished;

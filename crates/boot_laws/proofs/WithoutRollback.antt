@@ -4,6 +4,7 @@ use Prim.Native.Nat.{ℕ, zero, suc, _+_, _-_}
 use mathlib.Core.Path.{_≡_, _∙_, refl, sym, ap, ap₂}
 use mathlib.Core.List.{List, map}
 use lib.ListN.{getD, List·getD-map}
+use Rattle.otadata.specs.declared.Slot.{Slot}
 use Rattle.otadata.specs.declared.State.{State}
 use Rattle.otadata.specs.declared.State.the-variants.{New, Pending, Valid, Invalid, Aborted, Undefined}
 use Rattle.otadata.specs.declared.Verdict.{Verdict}
@@ -45,7 +46,7 @@ same-good : (v : Verdict) → goodVerdict (countedVerdict v) ≡ goodVerdict v
 same-good NotGood = refl
 same-good (Good q s) = refl
 
-same-bars : (n slot : ℕ) (v : Verdict) → verdictBars n slot (countedVerdict v) ≡ verdictBars n slot v
+same-bars : (n : ℕ) (slot : Slot) (v : Verdict) → verdictBars n slot (countedVerdict v) ≡ verdictBars n slot v
 same-bars n slot NotGood = refl
 same-bars n slot (Good q s) = simp (usable-state s)
 
@@ -76,14 +77,14 @@ module _ (list flash : List ℕ) (settings : Settings) (rs : List Reading) where
   unfolding throughRecords
   same-records = ap (throughHolder list flash settings (map counted rs)) same-active ∙ same-holder (active rs)
 
-  same-candidate : (slot : ℕ) → candidate list flash settings (map counted rs) slot ≡ candidate list flash settings rs slot
+  same-candidate : (slot : Slot) → candidate list flash settings (map counted rs) slot ≡ candidate list flash settings rs slot
   unfolding candidate barred
   same-candidate slot = simp (at, same-bars)
 
   same-search : (slot k : ℕ) → searchFrom list flash settings (map counted rs) slot k ≡ searchFrom list flash settings rs slot k
   unfolding searchFrom
   same-search slot zero = refl
-  same-search slot (suc k) = simp (same-candidate slot, same-search (slot + 1) k)
+  same-search slot (suc k) = simp (same-candidate (record { 0 = slot }), same-search (slot + 1) k)
 
   same-choice : choice list flash settings (map counted rs) ≡ choice list flash settings rs
   unfolding choice
@@ -93,7 +94,7 @@ module _ (list flash : List ℕ) (settings : Settings) (rs : List Reading) where
   unfolding anyGood
   same-any = simp (at, same-good)
 
-  same-reply : (c : Choice) → replyTo settings (map counted rs) c ≡ replyTo settings rs c
+  same-reply : (c : Choice) → replyTo settings (map counted rs) c .reply ≡ replyTo settings rs c .reply
   unfolding registerAfter
   same-reply Nothing = refl
   same-reply (Through k slot facts) = refl
@@ -105,5 +106,5 @@ unfolding WithoutRollback
 without-rollback list flash o settings off accepts =
     let rs = readingsOf o in
     replies list flash o settings accepts
-    ∙ ap (λ (x : List ℕ). replyTo settings (readingsOf x) (choice list flash settings (readingsOf x))) (no-marks settings o off)
-    ∙ sym (same-reply list flash settings rs (choice list flash settings (map counted rs)) ∙ ap (replyTo settings rs) (same-choice list flash settings rs))
+    ∙ ap (λ (x : List ℕ). replyTo settings (readingsOf x) (choice list flash settings (readingsOf x)) .reply) (no-marks settings o off)
+    ∙ sym (same-reply list flash settings rs (choice list flash settings (map counted rs)) ∙ ap (λ (c : Choice). replyTo settings rs c .reply) (same-choice list flash settings rs))

@@ -25,7 +25,7 @@ use Rattle.boot.specs.declared.Start.{Start}
 use Rattle.boot.specs.declared.Reply.{Reply}
 use Rattle.boot.specs.declared.Reply.the-variants.{Refused, Starts}
 use Rattle.boot_choice.specs.Choice.{image, choice}
-use Rattle.boot.specs.Boot.{Outcome, marked, replyTo, boot, Accepts}
+use Rattle.boot.specs.Boot.{view, Outcome, marked, replyTo, boot, Accepts}
 
 -- ---- which app is started
 
@@ -41,7 +41,7 @@ ThroughUsable o out =
 -- an app whose image is accepted and, with anti-rollback on, not below the eFuse version
 pub record NotBelow (list flash : List ℕ) (settings : Settings) (app : App) : Type 0 where
   pub facts : Facts
-  pub accepted : check (image list flash app) (settings .chip) ≡ Accepted facts
+  pub accepted : check (image list flash app) (settings .chip) .reply ≡ Accepted facts
   pub not-below : settings .«anti_rollback» ≡ true → version width (settings .efuse) ≤ facts .version .0
 
 -- a boot that starts an app starts such a one
@@ -55,6 +55,12 @@ pub record Never (list flash o : List ℕ) (settings : Settings) (out : Outcome)
 
 unfoldable pub NeverLaw : Type 0
 NeverLaw = (list flash o : List ℕ) (settings : Settings) → Never list flash o settings (boot list flash o settings)
+
+-- ---- the number and the values of a reply
+
+-- they are those of its view
+unfoldable pub ViewLaw : Type 0
+ViewLaw = (list flash o : List ℕ) (settings : Settings) → boot list flash o settings .answer ≡ view (boot list flash o settings .reply)
 
 -- ---- when a boot is refused
 
@@ -129,4 +135,4 @@ unfoldable pub WithoutRollback : Type 0
 WithoutRollback =
     (list flash o : List ℕ) (settings : Settings)
     → settings .rollback ≡ false → Accepts list (length flash) (length o) settings
-    → (let rs = map counted (readingsOf o) in boot list flash o settings .reply ≡ replyTo settings rs (choice list flash settings rs))
+    → (let rs = map counted (readingsOf o) in boot list flash o settings .reply ≡ replyTo settings rs (choice list flash settings rs) .reply)

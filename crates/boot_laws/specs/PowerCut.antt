@@ -68,11 +68,17 @@ pub record Claim (before rec : List ℕ) (k : ℕ) (left : List ℕ) (p : ℕ) (
   -- it never starts one through a record marked invalid or aborted, nor, with anti-rollback on, one below the eFuse version
   pub never : Never list flash (otadataOf p left other) settings (boot list flash (otadataOf p left other) settings)
 
+-- what is assumed: a history of sector p, a list and settings that boot accepts, and the untouched sector beside it
+pub record Premises (start : List ℕ) (calls : List Call) (before rec : List ℕ) (k p : ℕ) (list flash : List ℕ) (settings : Settings)
+    (other : List ℕ) (u : Sequence) : Type 0 where
+  pub history : History start calls before rec k
+  pub sector : p < 2
+  pub accepts : Accepts list (length flash) otadataSize settings
+  pub untouched : Untouched list flash settings other u
+
 -- for every list of calls on a sector that starts blank or with a good record, either sector, and all that boot accepts
 unfoldable pub Demand3 : Type 0
 Demand3 =
-    (start : List ℕ) (calls : List Call) (before rec : List ℕ) (k : ℕ) → History start calls before rec k
-    → (p : ℕ) → p < 2
-    → (list flash : List ℕ) (settings : Settings) → Accepts list (length flash) otadataSize settings
-    → (other : List ℕ) (u : Sequence) → Untouched list flash settings other u
+    (start : List ℕ) (calls : List Call) (before rec : List ℕ) (k p : ℕ) (list flash : List ℕ) (settings : Settings) (other : List ℕ) (u : Sequence)
+    → Premises start calls before rec k p list flash settings other u
     → Claim before rec k (after calls start) p other u list flash settings

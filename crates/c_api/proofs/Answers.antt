@@ -16,6 +16,7 @@ use Rattle.sectors.specs.Sectors.{sectorReading, Part, activePart}
 use Rattle.partitions.specs.declared.Listing.{Listing}
 use Rattle.partitions.specs.declared.Checked.{Checked as List·Checked}
 use Rattle.partitions.specs.declared.Checked.the-variants.{Refused as List·Refused, Accepted as List·Accepted}
+use Rattle.otadata.specs.Answers.{viewed}
 use Rattle.partitions.specs.PartitionList.{checked, view as List·view}
 use Rattle.app_image.specs.declared.Refusal.{Refusal}
 use Rattle.app_image.specs.declared.Facts.{Facts}
@@ -50,21 +51,21 @@ as-number : (b : Bool) → boolByte b ≡ cond b 1 0
 as-number true = refl
 as-number false = refl
 
-module _ (list : List ℕ) (capacity : ℕ) (c : List·Checked) (is : c ≡ checked list capacity) where
-  pub list-refused : (number : ℕ) → c ≡ List·Refused number → answer number (0 ∷ 0 ∷ []) ≡ toC 2 (List·view (checked list capacity))
+module _ (list : List ℕ) (capacity : ℕ) (c : List·Checked) (is : viewed List·view c ≡ checked list capacity) where
+  pub list-refused : (number : ℕ) → c ≡ List·Refused number → answer number (0 ∷ 0 ∷ []) ≡ toC 2 (checked list capacity .answer)
   list-refused number e = simp (← is, e)
 
   pub list-accepted : (listing : Listing) → c ≡ List·Accepted listing
-      → answer 0 (listing .slots ∷ boolByte (listing .factory) ∷ []) ≡ toC 2 (List·view (checked list capacity))
+      → answer 0 (listing .slots ∷ boolByte (listing .factory) ∷ []) ≡ toC 2 (checked list capacity .answer)
   list-accepted listing e = simp (← is, e, as-number)
 
 -- ---- an image
 
-module _ (image : List ℕ) (chip : ℕ) (c : Image·Checked) (is : c ≡ check image chip) where
+module _ (image : List ℕ) (chip : ℕ) (c : Image·Checked) (is : viewed Image·view c ≡ check image chip) where
   pub image-refused : (refusal : Refusal) → c ≡ Image·Refused refusal
-      → answer (refusal .number) (refusal .place ∷ 0 ∷ 0 ∷ 0 ∷ []) ≡ toC 4 (Image·view (check image chip))
+      → answer (refusal .number) (refusal .place ∷ 0 ∷ 0 ∷ 0 ∷ []) ≡ toC 4 (check image chip .answer)
   image-refused refusal e = simp (← is, e)
 
   pub image-accepted : (facts : Facts) → c ≡ Image·Accepted facts
-      → answer 0 (facts .length ∷ facts .entry ∷ facts .version .0 ∷ facts .segments ∷ []) ≡ toC 4 (Image·view (check image chip))
+      → answer 0 (facts .length ∷ facts .entry ∷ facts .version .0 ∷ facts .segments ∷ []) ≡ toC 4 (check image chip .answer)
   image-accepted facts e = simp (← is, e)

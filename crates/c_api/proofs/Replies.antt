@@ -18,7 +18,8 @@ use Rattle.update.specs.declared.Queried.{Queried}
 use Rattle.update.specs.declared.Queried.the-variants.{Refused as NotFound, Found}
 use Rattle.update.specs.declared.NextSlot.{NextSlot}
 use Rattle.update.specs.declared.NextSlot.the-variants.{Refused as NoNext, Next}
-use Rattle.update.specs.Replies.{queryView, nextView, outcome as Update·outcome}
+use Rattle.otadata.specs.Answers.{viewed}
+use Rattle.update.specs.Replies.{view, queryView, nextView, outcome as Update·outcome}
 use Rattle.update.specs.SetBoot.{setBoot}
 use Rattle.update.specs.Marks.{markValid, markInvalid}
 use Rattle.update.specs.Queries.{stateQuery, nextSlot}
@@ -27,7 +28,7 @@ use Rattle.c_api.specs.Interface.{answer, toC, slotOf, runningApp, outco
 -- ---- set-boot and the marks, with the settings that the arguments stand for
 
 module _ (list flash o : List ℕ) (settings : Settings) (slot : Slot) (r : Reply) (left : List ℕ) (given : Settings) (same : settings ≡ given) where
-  module _ (is : Update·outcome r left ≡ setBoot list flash o settings slot) where
+  module _ (is : Update·outcome (viewed view r) left ≡ setBoot list flash o settings slot) where
     pub set-refused : (refusal : Refusal) → r ≡ Refused refusal
         → outcome (answer (refusal .number) (refusal .image .number ∷ refusal .image .place ∷ [])) left ≡ ofSetBoot (setBoot list flash o given slot)
     set-refused refusal e = simp (← same, ← is, e)
@@ -36,7 +37,7 @@ module _ (list flash o : List ℕ) (settings : Settings) (slot : Slot) (r : Repl
         → outcome (answer 0 (0 ∷ 0 ∷ [])) left ≡ ofSetBoot (setBoot list flash o given slot)
     set-done completion e = simp (← same, ← is, e)
 
-  module _ (is : Update·outcome r left ≡ markValid list flash o settings slot) where
+  module _ (is : Update·outcome (viewed view r) left ≡ markValid list flash o settings slot) where
     pub valid-refused : (refusal : Refusal) → r ≡ Refused refusal
         → outcome (answer (refusal .number) (refusal .register ∷ refusal .image .number ∷ refusal .image .place ∷ [])) left
         ≡ ofMarkValid (markValid list flash o given slot)
@@ -46,7 +47,7 @@ module _ (list flash o : List ℕ) (settings : Settings) (slot : Slot) (r : Repl
         → outcome (answer 0 (completion .register ∷ 0 ∷ 0 ∷ [])) left ≡ ofMarkValid (markValid list flash o given slot)
     valid-done completion e = simp (← same, ← is, e)
 
-  module _ (is : Update·outcome r left ≡ markInvalid list flash o settings slot) where
+  module _ (is : Update·outcome (viewed view r) left ≡ markInvalid list flash o settings slot) where
     pub invalid-refused : (refusal : Refusal) → r ≡ Refused refusal
         → outcome (answer (refusal .number) []) left ≡ ofMarkInvalid (markInvalid list flash o given slot)
     invalid-refused refusal e = simp (← same, ← is, e)
@@ -57,24 +58,24 @@ module _ (list flash o : List ℕ) (settings : Settings) (slot : Slot) (r : Repl
 
 -- ---- the state query
 
-module _ (list : List ℕ) (capacity : ℕ) (o : List ℕ) (slot : ℕ) (q : Queried) (is : q ≡ stateQuery list capacity o slot) where
-  pub query-refused : (number : ℕ) → q ≡ NotFound number → answer number (0 ∷ []) ≡ toC 1 (queryView (stateQuery list capacity o slot))
+module _ (list : List ℕ) (capacity : ℕ) (o : List ℕ) (slot : Slot) (q : Queried) (is : viewed queryView q ≡ stateQuery list capacity o slot) where
+  pub query-refused : (number : ℕ) → q ≡ NotFound number → answer number (0 ∷ []) ≡ toC 1 (stateQuery list capacity o slot .answer)
   query-refused number e = simp (← is, e)
 
   pub query-found : (state : State) → q ≡ Found state → (w : ℕ) → w ≡ stateWord state
-      → answer 0 (w ∷ []) ≡ toC 1 (queryView (stateQuery list capacity o slot))
+      → answer 0 (w ∷ []) ≡ toC 1 (stateQuery list capacity o slot .answer)
   query-found state e w word = simp (← is, e, word)
 
 -- ---- the next update slot, with the settings and the running app that the arguments stand for
 
 module _ (list : List ℕ) (capacity : ℕ) (o : List ℕ) (settings : Settings) (app : App) (n : NextSlot)
-    (is : n ≡ nextSlot list capacity o settings app) (given : Settings) (same : settings ≡ given) (running : App) (runs : app ≡ running) where
+    (is : viewed nextView n ≡ nextSlot list capacity o settings app) (given : Settings) (same : settings ≡ given) (running : App) (runs : app ≡ running) where
   pub next-refused : (number : ℕ) → n ≡ NoNext number
-      → answer number (0 ∷ []) ≡ toC 1 (nextView (nextSlot list capacity o given running))
+      → answer number (0 ∷ []) ≡ toC 1 (nextSlot list capacity o given running .answer)
   next-refused number e = simp (← same, ← runs, ← is, e)
 
   pub next-found : (slot : Slot) → n ≡ Next slot
-      → answer 0 (slot .0 ∷ []) ≡ toC 1 (nextView (nextSlot list capacity o given running))
+      → answer 0 (slot .0 ∷ []) ≡ toC 1 (nextSlot list capacity o given running .answer)
   next-found slot e = simp (← same, ← runs, ← is, e)
 
 -- ---- the running app

@@ -21,14 +21,15 @@ use Rattle.sectors.specs.Sectors.{readingsOf}
 use Rattle.boot.specs.declared.Start.{Start}
 use Rattle.boot.specs.declared.Reply.{Reply}
 use Rattle.boot.specs.declared.Reply.the-variants.{Refused, Starts}
-use Rattle.boot.specs.Boot.{appValues, sectorValue, marked, usedSector, replyTo, fromMarks, byTests, boot, Outcome as Boot·Outcome, outcome as Boot·outcome}
+use Rattle.otadata.specs.Answers.{viewed}
+use Rattle.boot.specs.Boot.{view, appValues, sectorValue, marked, usedSector, replyTo, fromMarks, byTests, boot, Outcome as Boot·Outcome, outcome as Boot·outcome}
 use Rattle.boot.proofs.Replies.{one-of-two}
 use Rattle.c_api.specs.Interface.{answer, outcome, ofBoot}
 
 -- ---- the sector of a start
 
 -- a choice that starts through a sector came through that sector
-through-used : (settings : Settings) (rs : List Reading) (made : Choice) (start : Start) → replyTo settings rs made ≡ Starts start → usedSector made ≡ start .through
+through-used : (settings : Settings) (rs : List Reading) (made : Choice) (start : Start) → replyTo settings rs made .reply ≡ Starts start → usedSector made ≡ start .through
 through-used settings rs Nothing start e = absurd (let z : _≡_ {A = ℕ} 0 1 = cc in omega arith)
 through-used settings rs (Through k slot facts) start e = cc
 through-used settings rs (Factory facts) start e = cc
@@ -43,7 +44,7 @@ module _ (list flash o : List ℕ) (settings : Settings) (start : Start) (k : �
       let made = choice list flash settings rs in
       one-of-two list flash settings rs made refl _ refl k (through-used settings rs made start e ∙ through)
 
-module _ (list flash o : List ℕ) (settings : Settings) (r : Reply) (left : List ℕ) (is : Boot·outcome r left ≡ boot list flash o settings) where
+module _ (list flash o : List ℕ) (settings : Settings) (r : Reply) (left : List ℕ) (is : Boot·outcome (viewed view r) left ≡ boot list flash o settings) where
   pub one-of-two-sectors : (start : Start) → r ≡ Starts start → (k : ℕ) → start .through ≡ Sector k → k < 2
   unfolding boot
   one-of-two-sectors start e k through =

@@ -13,8 +13,8 @@ use Rattle.otadata.specs.Records.{stateWord}
 use Rattle.partitions.specs.declared.App.{App}
 use Rattle.partitions.specs.declared.App.the-variants.{Factory, OtaSlot}
 use Rattle.boot_choice.specs.declared.Settings.{Settings}
-use Rattle.boot.specs.Boot.{Outcome as Boot·Outcome, view as Boot·view}
-use Rattle.update.specs.Replies.{Outcome as Update·Outcome, view as Update·view}
+use Rattle.boot.specs.Boot.{Outcome as Boot·Outcome}
+use Rattle.update.specs.Replies.{Outcome as Update·Outcome}
 
 -- ---- an answer
 
@@ -67,16 +67,16 @@ outcome a o = record { answer = a; otadata = o }
 
 -- that of boot: its reply has a value for each place of `out`
 abbrev pub ofBoot : Boot·Outcome → Outcome
-ofBoot b = outcome (Boot·view (b .reply)) (b .otadata)
+ofBoot b = outcome (b .answer) (b .otadata)
 
 -- that of mark-valid: the same
 abbrev pub ofMarkValid : Update·Outcome → Outcome
-ofMarkValid u = outcome (Update·view (u .reply)) (u .otadata)
+ofMarkValid u = outcome (u .answer) (u .otadata)
 
 -- that of set-boot: without the register, the first value of its reply
 abbrev pub ofSetBoot : Update·Outcome → Outcome
-ofSetBoot u = outcome (answer (Update·view (u .reply) .number) (drop 1 (Update·view (u .reply) .values))) (u .otadata)
+ofSetBoot u = outcome (answer (u .answer .number) (drop 1 (u .answer .values))) (u .otadata)
 
 -- that of mark-invalid: the number alone
 abbrev pub ofMarkInvalid : Update·Outcome → Outcome
-ofMarkInvalid u = outcome (answer (Update·view (u .reply) .number) []) (u .otadata)
+ofMarkInvalid u = outcome (answer (u .answer .number) []) (u .otadata)

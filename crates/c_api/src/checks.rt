@@ -1,13 +1,13 @@
 // The checks of a partition list and of an app image.
 ghost use mathlib.Core.Path.{_≡_};
-ghost use Rattle.partitions.specs.PartitionList.{checked, view as PartitionList·view};
-ghost use Rattle.app_image.specs.Check.{check as Check·check, view as Check·view};
+ghost use Rattle.partitions.specs.PartitionList.{checked};
+ghost use Rattle.app_image.specs.Check.{check as Check·check};
 ghost use Rattle.c_api.specs.Interface.{answer, toC};
 
 // Tests a partition list, for a flash of that length: 0 with the number of slots and 1 where factory is listed, or 1.
 #[no_mangle]
 pub extern "C" fn ota_check_list(list: &[u32], capacity: usize, out: &mut [u32; 2]) -> u32
-    ensures { λ r. ⌜ answer r (now (out .exit)) ≡ toC 2 (PartitionList·view (checked (now (list .entry)) capacity)) ⌝ }
+    ensures { λ r. ⌜ answer r (now (out .exit)) ≡ toC 2 (checked (now (list .entry)) capacity .answer) ⌝ }
 {
     let checked = partitions::check(list, capacity);
     match checked {
@@ -25,7 +25,7 @@ pub extern "C" fn ota_check_list(list: &[u32], capacity: usize, out: &mut [u32; 
 // Checks an image, for a chip: 0 with length, entry, version and segments, or 20 to 29 with the place.
 #[no_mangle]
 pub extern "C" fn ota_check_image(image: &[u8], chip: u16, out: &mut [u64; 4]) -> u32
-    ensures { λ r. ⌜ answer r (now (out .exit)) ≡ toC 4 (Check·view (Check·check (now (image .entry)) chip)) ⌝ }
+    ensures { λ r. ⌜ answer r (now (out .exit)) ≡ toC 4 (Check·check (now (image .entry)) chip .answer) ⌝ }
 {
     let checked = app_image::check(image, chip);
     match checked {

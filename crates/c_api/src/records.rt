@@ -29,7 +29,7 @@ pub extern "C" fn ota_make_record(
     state: u32,
     rec: &mut [u8; RECORD_SIZE],
 ) -> u32
-    ensures { λ r. ⌜ answer r (now (rec .exit)) ≡ madeView (made sequence (now (label .entry)) state) ⌝ }
+    ensures { λ r. ⌜ answer r (now (rec .exit)) ≡ madeView (made (record { 0 = sequence }) (now (label .entry)) state) ⌝ }
 {
     let made = make(Sequence(sequence), *label, state);
     let bytes = made.rec;

@@ -2,7 +2,6 @@
 ghost use mathlib.Core.Path.{_≡_};
 ghost use mathlib.Core.List.{[]};
 ghost use lib.ListN.{length};
-ghost use Rattle.update.specs.Replies.{queryView, nextView};
 ghost use Rattle.update.specs.SetBoot.{setBoot};
 ghost use Rattle.update.specs.Marks.{markValid, markInvalid};
 ghost use Rattle.update.specs.Queries.{stateQuery, nextSlot};
@@ -131,7 +130,7 @@ pub extern "C" fn ota_state_query(
     slot: u32,
     out: &mut [u32; 1],
 ) -> u32
-    ensures { λ r. ⌜ answer r (now (out .exit)) ≡ toC 1 (queryView (stateQuery (now (list .entry)) (length (now (flash .entry))) (now (otadata .entry)) slot)) ⌝ }
+    ensures { λ r. ⌜ answer r (now (out .exit)) ≡ toC 1 (stateQuery (now (list .entry)) (length (now (flash .entry))) (now (otadata .entry)) (slotOf slot) .answer) ⌝ }
 {
     let queried = state_query(list, flash, otadata, Slot(slot));
     match queried {
@@ -159,7 +158,7 @@ pub extern "C" fn ota_next_slot(
     running: u32,
     out: &mut [u32; 1],
 ) -> u32
-    ensures { λ r. ⌜ answer r (now (out .exit)) ≡ toC 1 (nextView (nextSlot (now (list .entry)) (length (now (flash .entry))) (now (otadata .entry)) (settingsOf chip efuse rollback anti) (runningApp running))) ⌝ }
+    ensures { λ r. ⌜ answer r (now (out .exit)) ≡ toC 1 (nextSlot (now (list .entry)) (length (now (flash .entry))) (now (otadata .entry)) (settingsOf chip efuse rollback anti) (runningApp running) .answer) ⌝ }
 {
     let next = next_slot(
         list,

@@ -1,3 +1,4 @@
+pub mod Answers
 pub mod Booleans
 pub mod CheckWord
 pub mod Examples

@@ -33,7 +33,7 @@ pub word-decides : (r : Reading) (q : Sequence) (its : State) → r .verdict ≡
     → (state : State) (a : ℕ) → a ≡ stateWord its → (b : ℕ) → b ≡ stateWord state → eqb a b ≡ inState state (r .verdict)
 word-decides r q its e state a ea b eb = simp (e, ea, eb)
 
-module _ (q : ℕ) (label : List ℕ) (state : ℕ) (rec : List ℕ) (t : Bool) (fields : rec ≡ recordOf q label state) (tested : t ≡ good rec) where
+module _ (q : Sequence) (label : List ℕ) (state : ℕ) (rec : List ℕ) (t : Bool) (fields : rec ≡ recordOf (q .0) label state) (tested : t ≡ good rec) where
   pub not-made : not t ≡ true → _≡_ {A = Made} (record { number = 17; rec = replicate 32 0 }) (made q label state)
   unfolding made
   not-made n = simp (← fields, ← tested, not-true t n)

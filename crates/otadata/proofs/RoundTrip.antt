@@ -107,10 +107,10 @@ made-by : (b : Bool) (rec zeros : List ℕ)
 made-by true rec zeros e = (refl, refl)
 made-by false rec zeros e = absurd (omega arith)
 
-made-good : (q : ℕ) (label : List ℕ) (state : ℕ) → made q label state .number ≡ 0
-    → (good (recordOf q label state) ≡ true) × (made q label state .rec ≡ recordOf q label state)
+made-good : (q : Sequence) (label : List ℕ) (state : ℕ) → made q label state .number ≡ 0
+    → (good (recordOf (q .0) label state) ≡ true) × (made q label state .rec ≡ recordOf (q .0) label state)
 unfolding made
-made-good q label state e = made-by (good (recordOf q label state)) (recordOf q label state) (replicate 32 0) e
+made-good q label state e = made-by (good (recordOf (q .0) label state)) (recordOf (q .0) label state) (replicate 32 0) e
 
 pub reading-of-good : (rec : List ℕ) → good rec ≡ true
     → reading rec ≡ record { verdict = Good (record { 0 = sequenceField rec }) (stateOf (stateField rec)); label = labelField rec }
@@ -121,13 +121,13 @@ pub made-then-read : MadeThenRead
 unfolding MadeThenRead
 made-then-read q label w lq size lw e =
     let m = made-good q label w e in
-    let state = made-state q label w lq size lw in
+    let state = made-state (q .0) label w lq size lw in
     record {
       state = stateOf w;
-      of-word = word-of-state w (rw state at (is-good (recordOf q label w) (m .0) .state));
+      of-word = word-of-state w (rw state at (is-good (recordOf (q .0) label w) (m .0) .state));
       same = ap reading (m .1)
-          ∙ reading-of-good (recordOf q label w) (m .0)
-          ∙ simp (made-sequence q label w lq size lw, state, made-label q label w lq size lw);
+          ∙ reading-of-good (recordOf (q .0) label w) (m .0)
+          ∙ simp (made-sequence (q .0) label w lq size lw, state, made-label (q .0) label w lq size lw);
     }
 
 -- ---- read, then made
@@ -186,7 +186,7 @@ pub read-good : (rec : List ℕ) (q : Sequence) (s : State) → reading rec .ver
 unfolding reading
 read-good rec q s e = good-by (good rec) _ q s e
 
-made-of-good : (rec : List ℕ) (q : ℕ) (label : List ℕ) (w : ℕ) → good rec ≡ true → recordOf q label w ≡ rec
+made-of-good : (rec : List ℕ) (q : Sequence) (label : List ℕ) (w : ℕ) → good rec ≡ true → recordOf (q .0) label w ≡ rec
     → made q label w ≡ record { number = 0; rec = rec }
 unfolding made
 made-of-good rec q label w g e = simp (e, g)
@@ -202,5 +202,5 @@ read-then-made rec q s b e =
     let same-s : stateOf (stateField rec) ≡ s = cc in
     let same-label : reading rec .label ≡ labelField rec = ap (λ (x : Reading). x .label) r in
     let same-w : stateWord s ≡ stateField rec = ap stateWord (sym same-s) ∙ word-of-state (stateField rec) (is .state) in
-    made-of-good rec (q .0) (reading rec .label) (stateWord s) g
+    made-of-good rec q (reading rec .label) (stateWord s) g
     (simp (← same-q, same-label, same-w) (same-record rec b is))

@@ -5,6 +5,8 @@ use mathlib.Core.List.{List, _++_}
 use lib.Dec.{eqb, leb}
 use lib.ListN.{length, take, drop, replicate}
 use Rattle.otadata.specs.Words.{word, bytesOf, checkWord}
+use Rattle.otadata.specs.declared.Slot.{Slot}
+use Rattle.otadata.specs.declared.Sequence.{Sequence}
 use Rattle.otadata.specs.declared.State.{State}
 use Rattle.otadata.specs.declared.State.the-variants.{New, Pending, Valid, Invalid, Aborted, Undefined}
 use Rattle.otadata.specs.declared.Verdict.{Verdict}
@@ -96,13 +98,13 @@ inState state None = false
 inState state (Good q its) = eqb (stateWord its) (stateWord state)
 
 -- the sequence of a good record, and 0 of none
-abbrev pub sequenceIn : Verdict → ℕ
-sequenceIn None = 0
-sequenceIn (Good q s) = q .0
+abbrev pub sequenceIn : Verdict → Sequence
+sequenceIn None = record { 0 = 0 }
+sequenceIn (Good q s) = q
 
 -- document 01's term *names slot*: with n slots, a good record of sequence q names slot (q - 1) mod n. Of no slots: 0
-unfoldable pub namesSlot : ℕ → ℕ → ℕ
-namesSlot n q = cond (eqb n 0) 0 ((q - 1) % n)
+unfoldable pub namesSlot : ℕ → Sequence → Slot
+namesSlot n q = record { 0 = cond (eqb n 0) 0 ((q .0 - 1) % n) }
 
 -- ---- making
 
@@ -111,8 +113,8 @@ unfoldable pub recordOf : ℕ → List ℕ → ℕ → List ℕ
 recordOf q label state = bytesOf q ++ label ++ bytesOf state ++ bytesOf (checkWord q)
 
 -- 0 and the record, or 17 and 32 zero bytes where it would not be good
-unfoldable pub made : ℕ → List ℕ → ℕ → Made
+unfoldable pub made : Sequence → List ℕ → ℕ → Made
 made q label state =
-    cond (good (recordOf q label state))
-    (record { number = 0; rec = recordOf q label state })
+    cond (good (recordOf (q .0) label state))
+    (record { number = 0; rec = recordOf (q .0) label state })
     (record { number = 17; rec = replicate 32 0 })

@@ -2,7 +2,6 @@
 mod records;
 mod words;
 
-pub use records::fields;
 pub use records::in_state;
 pub use records::make;
 pub use records::read;

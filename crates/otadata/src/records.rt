@@ -38,7 +38,7 @@ impl State {
 impl Sequence {
     // The slot that a good record of this sequence names, with n slots.
     pub fn slot(self, n: u32) -> Slot
-        ensures { λ r. ⌜ r .0 ≡ namesSlot n (self .0) ⌝ }
+        ensures { λ r. ⌜ r ≡ namesSlot n self ⌝ }
     {
         let sequence = self.0;
         if n == 0 {
@@ -166,19 +166,19 @@ pub fn in_state(reading: Reading, state: State) -> bool
 }
 
 // The sequence of a good record, and 0 of none.
-pub fn sequence_of(reading: Reading) -> u32
+pub fn sequence_of(reading: Reading) -> Sequence
     ensures { λ r. ⌜ r ≡ sequenceIn (reading .verdict) ⌝ }
 {
     let verdict = reading.verdict;
     match verdict {
-        Verdict::None => 0,
-        Verdict::Good(sequence, _) => sequence.0,
+        Verdict::None => Sequence(0),
+        Verdict::Good(sequence, _) => sequence,
     }
 }
 
 // Makes the record of a sequence, a label and a state word.
 pub fn make(sequence: Sequence, label: [u8; 20], state: u32) -> Made
-    ensures { λ r. ⌜ r ≡ made (sequence .0) label state ⌝ }
+    ensures { λ r. ⌜ r ≡ made sequence label state ⌝ }
 {
     let rec = fields(sequence, label, state);
     if !good(&rec) {
@@ -191,7 +191,7 @@ pub fn make(sequence: Sequence, label: [u8; 20], state: u32) -> Made
 }
 
 // The 32 bytes of the fields, whether they make a good record or not.
-pub fn fields(sequence: Sequence, label: [u8; 20], state: u32) -> [u8; RECORD_SIZE]
+fn fields(sequence: Sequence, label: [u8; 20], state: u32) -> [u8; RECORD_SIZE]
     ensures { λ r. ⌜ r ≡ recordOf (sequence .0) label state ⌝ }
 {
     let check = check_word(sequence);

@@ -9,17 +9,18 @@ use native.Mathlib.Omega.{arith}
 use lib.Dec.{eqb}
 use lib.ListN.{length, take, drop}
 use borrow.Author.Tests.{lt-ltb, le-ltb, not-true, not-false}
+use Rattle.otadata.specs.Answers.{viewed}
 use Rattle.sectors.specs.Sectors.{Part}
 use Rattle.partitions.specs.declared.App.{App}
 use Rattle.partitions.specs.declared.Checked.the-variants.{Refused, Accepted}
-use Rattle.partitions.specs.PartitionList.{entryCount, entryAt, endOf, timesListed, factorySubtype, maxSlots, right, checked, subtypeOf, entryOf, appPart}
+use Rattle.partitions.specs.PartitionList.{entryCount, entryAt, endOf, timesListed, factorySubtype, maxSlots, right, view, checked, subtypeOf, entryOf, appPart}
 use Rattle.partitions.specs.RightList.{RightList}
 use Rattle.partitions.proofs.RightMeans.{right-is}
 
 -- ---- the test of a list
 
 module _ (list : List ℕ) (capacity : ℕ) (t : Bool) (tested : t ≡ right list capacity) where
-  pub refused : not t ≡ true → Refused 1 ≡ checked list capacity
+  pub refused : not t ≡ true → viewed view (Refused 1) ≡ checked list capacity
   unfolding checked
   refused n = simp (← tested, not-true t n)
 
@@ -31,7 +32,7 @@ module _ (list : List ℕ) (capacity : ℕ) (t : Bool) (tested : t ≡ right lis
     few-entries = omega (arith, known-right .most, known-right .factory)
 
     module _ (f : ℕ) (counted : f ≡ timesListed list factorySubtype) where
-      pub accepted : Accepted (record { slots = entryCount list - f; factory = eqb f 1 }) ≡ checked list capacity
+      pub accepted : viewed view (Accepted (record { slots = entryCount list - f; factory = eqb f 1 })) ≡ checked list capacity
       unfolding checked
       accepted = simp (← tested, not-false t y, ← counted)
 

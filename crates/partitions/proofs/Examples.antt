@@ -4,7 +4,7 @@ use Prim.Native.Nat.{ℕ, suc, zero, _+_, _*_}
 use mathlib.Core.Path.{_≡_, refl}
 use mathlib.Core.List.{List, [], _∷_, _++_, map}
 use lib.ListN.{replicate}
-use Rattle.partitions.specs.PartitionList.{everyBelow, countBelow, right, checked, view}
+use Rattle.partitions.specs.PartitionList.{everyBelow, countBelow, right, checked}
 
 -- an entry's three words
 abbrev entry : ℕ → ℕ → ℕ → List ℕ
@@ -17,17 +17,17 @@ slotsInRow (suc n) = slotsInRow n ++ entry (16 + n) (65536 * (n + 1)) 65536
 
 -- ---- right
 
-two-slots : view (checked (slotsInRow 2) 196608) ≡ record { number = 0; values = 2 ∷ 0 ∷ [] }
+two-slots : checked (slotsInRow 2) 196608 .answer ≡ record { number = 0; values = 2 ∷ 0 ∷ [] }
 unfolding checked right everyBelow countBelow
 two-slots = refl
 
 -- factory last, the slots in another order, no room between the three, and the last ends with the flash
 factory-last :
-    view (checked (entry 17 65536 65536 ++ entry 16 131072 131072 ++ entry 0 262144 4096) 266240) ≡ record { number = 0; values = 2 ∷ 1 ∷ [] }
+    checked (entry 17 65536 65536 ++ entry 16 131072 131072 ++ entry 0 262144 4096) 266240 .answer ≡ record { number = 0; values = 2 ∷ 1 ∷ [] }
 unfolding checked right everyBelow countBelow
 factory-last = refl
 
-eight-slots : view (checked (slotsInRow 8 ++ entry 0 0 4096) 16777216) ≡ record { number = 0; values = 8 ∷ 1 ∷ [] }
+eight-slots : checked (slotsInRow 8 ++ entry 0 0 4096) 16777216 .answer ≡ record { number = 0; values = 8 ∷ 1 ∷ [] }
 unfolding checked right everyBelow countBelow
 eight-slots = refl
 
@@ -55,10 +55,10 @@ refused-lists =
     ∷ (entry 16 65536 69632 ++ entry 17 131072 65536)
     ∷ []
 
-each-refused : map (λ (list : List ℕ). view (checked list 16777216)) refused-lists ≡ replicate 14 (record { number = 1; values = [] })
+each-refused : map (λ (list : List ℕ). checked list 16777216 .answer) refused-lists ≡ replicate 14 (record { number = 1; values = [] })
 unfolding refused-lists checked right everyBelow countBelow
 each-refused = refl
 
-flash-too-large : view (checked (slotsInRow 2) 16777217) ≡ record { number = 1; values = [] }
+flash-too-large : checked (slotsInRow 2) 16777217 .answer ≡ record { number = 1; values = [] }
 unfolding checked right everyBelow countBelow
 flash-too-large = refl

@@ -5,7 +5,7 @@ use mathlib.Core.Bool.{Bool, true, cond, not, _&&_, _||_}
 use mathlib.Core.List.{List, [], _∷_}
 use lib.Dec.{eqb, leb, ltb}
 use lib.ListN.{length, getD, take, drop}
-use Rattle.otadata.specs.Answers.{Answer}
+use Rattle.otadata.specs.Answers.{Answer, Answered, answers}
 use Rattle.sectors.specs.Sectors.{Part}
 use Rattle.partitions.specs.declared.App.{App}
 use Rattle.partitions.specs.declared.App.the-variants.{Factory, OtaSlot}
@@ -138,12 +138,13 @@ abbrev pub view : Checked → Answer
 view (Refused number) = record { number = number; values = [] }
 view (Accepted listing) = record { number = 0; values = listing .slots ∷ cond (listing .factory) 1 0 ∷ [] }
 
--- the number of slots and whether factory is listed, or refused with 1
-unfoldable pub checked : List ℕ → ℕ → Checked
+-- 0 with the number of slots and whether factory is listed, or 1
+unfoldable pub checked : List ℕ → ℕ → Answered Checked
 checked list capacity =
+    let factory = eqb (timesListed list factorySubtype) 1 in
     cond (right list capacity)
-    (Accepted (record { slots = slotCount list; factory = eqb (timesListed list factorySubtype) 1 }))
-    (Refused 1)
+    (answers 0 (slotCount list ∷ cond factory 1 0 ∷ []) (Accepted (record { slots = slotCount list; factory = factory })))
+    (answers 1 [] (Refused 1))
 
 -- ---- the part of the flash that belongs to an app
 

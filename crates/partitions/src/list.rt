@@ -2,9 +2,10 @@
 ghost use mathlib.Core.Path.{_≡_};
 ghost use Prim.Native.Nat.{_+_, _*_, _^_, _≤_, _<_};
 ghost use lib.ListN.{length};
+ghost use Rattle.otadata.specs.Answers.{viewed};
 ghost use Rattle.sectors.specs.Sectors.{part};
 ghost use Rattle.partitions.specs.PartitionList.{slotsRight, eachSlotOnce, eachEntryRight, noOverlapBefore, noTwoOverlap};
-ghost use Rattle.partitions.specs.PartitionList.{right as PartitionList·right, checked, subtypeOf, appPart};
+ghost use Rattle.partitions.specs.PartitionList.{right as PartitionList·right, view, checked, subtypeOf, appPart};
 use crate::App;
 use crate::BAD_LIST;
 use crate::Checked;
@@ -23,7 +24,7 @@ use crate::entries::times_listed;
 
 // Tests a list, for a flash of that length.
 pub fn check(list: &[u32], capacity: usize) -> Checked
-    ensures { λ r. ⌜ r ≡ checked (now (list .entry)) capacity ⌝ }
+    ensures { λ r. ⌜ viewed view r ≡ checked (now (list .entry)) capacity ⌝ }
 {
     if !right(list, capacity) {
         return Checked::Refused(BAD_LIST);

@@ -1,15 +1,16 @@
 -- Which record is active, as the tests of the code decide it.
 -- Assumes nothing.
-use Prim.Native.Nat.{ℕ, _<_}
-use mathlib.Core.Path.{_≡_, _∙_, refl}
+use Prim.Native.Nat.{ℕ, zero, suc, _-_, _<_}
+use mathlib.Core.Path.{_≡_, _∙_, refl, ap, subst}
 use mathlib.Core.Bool.{Bool, true, false, not}
 use mathlib.Core.List.{List, [], _∷_}
+use mathlib.Core.Logic.{_⊎_, inl, inr}
 use native.Mathlib.Nat.{not-suc-le-zero, le-of-suc-le-suc}
 use native.Mathlib.Omega.{arith}
 use lib.Dec.{ltb}
 use lib.ListN.{length, getD}
-use borrow.Author.Tests.{eq-eqb, ne-eqb, not-true, not-false}
-use Prim.Native.Nat.{zero, suc}
+use borrow.Author.Tests.{lt-ltb, le-ltb, eq-eqb, ne-eqb, not-true, not-false}
+use Rattle.otadata.specs.declared.Sequence.{Sequence}
 use Rattle.otadata.specs.declared.Reading.{Reading}
 use Rattle.sectors.specs.declared.Holder.{Holder}
 use Rattle.sectors.specs.declared.Holder.the-variants.{None, Sector}
@@ -21,6 +22,19 @@ pub default : (rs : List Reading) (k : ℕ) (d e : Reading) → k < length rs �
 default [] k d e l = absurd (not-suc-le-zero l)
 default (r ∷ rs) zero d e l = refl
 default (r ∷ rs) (suc k) d e l = default rs k d e (le-of-suc-le-suc l)
+
+-- what holds of 0 and of 1 holds of every sector number
+pub two : (P : ℕ → Type 0) → P 0 → P 1 → (k : ℕ) → k < 2 → P k
+two P p0 p1 zero l = p0
+two P p0 p1 (suc zero) l = p1
+two P p0 p1 (suc (suc k)) l = absurd (omega arith)
+
+-- one of the two numbers is j or the other
+pub this-or-other : (j : ℕ) → j < 2 → (k : ℕ) → k < 2 → (k ≡ j) ⊎ (k ≡ 1 - j)
+this-or-other =
+    two (λ (j : ℕ). (k : ℕ) → k < 2 → (k ≡ j) ⊎ (k ≡ 1 - j))
+    (two (λ (k : ℕ). (k ≡ 0) ⊎ (k ≡ 1)) (inl refl) (inr refl))
+    (two (λ (k : ℕ). (k ≡ 1) ⊎ (k ≡ 0)) (inr refl) (inl refl))
 
 -- ---- of the records that count, the higher
 
@@ -44,9 +58,9 @@ module _ (first second higher : Bool) (yes : not second ≡ false) where
 
 -- by any test of the two records
 pub higher-by : (test : Reading → Bool) (rs : List Reading) → length rs ≡ 2 → (d : Reading)
-    → (a : ℕ) → a ≡ sequenceIn (getD rs 0 d .verdict) → (b : ℕ) → b ≡ sequenceIn (getD rs 1 d .verdict)
+    → (a : Sequence) → a ≡ sequenceIn (getD rs 0 d .verdict) → (b : Sequence) → b ≡ sequenceIn (getD rs 1 d .verdict)
     → (first : Bool) → first ≡ test (getD rs 0 d) → (second : Bool) → second ≡ test (getD rs 1 d)
-    → (h : Holder) → h ≡ higherOf first second (ltb a b) → h ≡ highestOf test rs
+    → (h : Holder) → h ≡ higherOf first second (ltb (a .0) (b .0)) → h ≡ highestOf test rs
 higher-by test rs size d a ea b eb first e0 second e1 h e =
     e ∙ simp (e0, e1, ea, eb, default rs 0 d noReading (omega arith), default rs 1 d noReading (omega arith))
 
@@ -63,7 +77,68 @@ unfolding active
 active-below-two rs k e =
     let first = getD rs 0 noReading in
     let second = getD rs 1 noReading in
-    by-usable (usable first) (usable second) (ltb (sequenceIn (first .verdict)) (sequenceIn (second .verdict))) k e
+    by-usable (usable first) (usable second) (ltb (sequenceIn (first .verdict) .0) (sequenceIn (second .verdict) .0)) k e
+
+-- ---- which record is active, by the records
+
+module _ (rs : List Reading) where
+  abbrev pub usableAt : ℕ → Bool
+  usableAt k = usable (getD rs k noReading)
+
+  abbrev pub sequenceAt : ℕ → ℕ
+  sequenceAt k = sequenceIn (getD rs k noReading .verdict) .0
+
+  -- the active record is usable
+  pub active-usable : (k : ℕ) → active rs ≡ Sector k → usableAt k ≡ true
+  unfolding active
+  active-usable k e = by (usableAt 0) (usableAt 1) (ltb (sequenceAt 0) (sequenceAt 1)) refl refl e
+    where
+      by : (first second higher : Bool) → usableAt 0 ≡ first → usableAt 1 ≡ second → higherOf first second higher ≡ Sector k → usableAt k ≡ true
+      by false false higher u0 u1 h = absurd (let z : _≡_ {A = ℕ} 0 1 = cc in omega arith)
+      by true false higher u0 u1 h = let same : 0 ≡ k = cc in subst (λ (j : ℕ). usableAt j ≡ true) same u0
+      by false true higher u0 u1 h = let same : 1 ≡ k = cc in subst (λ (j : ℕ). usableAt j ≡ true) same u1
+      by true true true u0 u1 h = let same : 1 ≡ k = cc in subst (λ (j : ℕ). usableAt j ≡ true) same u1
+      by true true false u0 u1 h = let same : 0 ≡ k = cc in subst (λ (j : ℕ). usableAt j ≡ true) same u0
+
+  -- where none is active, none is usable
+  pub none-usable : active rs ≡ None → (k : ℕ) → k < 2 → usableAt k ≡ false
+  unfolding active
+  none-usable e = by (usableAt 0) (usableAt 1) (ltb (sequenceAt 0) (sequenceAt 1)) refl refl e
+    where
+      by : (first second higher : Bool) → usableAt 0 ≡ first → usableAt 1 ≡ second → higherOf first second higher ≡ None → (k : ℕ) → k < 2 → usableAt k ≡ false
+      by false false higher u0 u1 h = two (λ (k : ℕ). usableAt k ≡ false) u0 u1
+      by true false higher u0 u1 h = absurd (let z : _≡_ {A = ℕ} 0 1 = cc in omega arith)
+      by false true higher u0 u1 h = absurd (let z : _≡_ {A = ℕ} 0 1 = cc in omega arith)
+      by true true true u0 u1 h = absurd (let z : _≡_ {A = ℕ} 0 1 = cc in omega arith)
+      by true true false u0 u1 h = absurd (let z : _≡_ {A = ℕ} 0 1 = cc in omega arith)
+
+  -- a usable record is active where the other one isn't usable, and where the other's sequence is lower
+  pub only-usable : (k : ℕ) → k < 2 → usableAt k ≡ true → usableAt (1 - k) ≡ false → active rs ≡ Sector k
+  unfolding active
+  only-usable =
+      two (λ (k : ℕ). usableAt k ≡ true → usableAt (1 - k) ≡ false → active rs ≡ Sector k)
+      (λ (u : usableAt 0 ≡ true) (n : usableAt 1 ≡ false). simp (u, n))
+      (λ (u : usableAt 1 ≡ true) (n : usableAt 0 ≡ false). simp (u, n))
+
+  pub higher-usable : (k : ℕ) → k < 2 → usableAt k ≡ true → usableAt (1 - k) ≡ true → sequenceAt (1 - k) < sequenceAt k → active rs ≡ Sector k
+  unfolding active
+  higher-usable =
+      two (λ (k : ℕ). usableAt k ≡ true → usableAt (1 - k) ≡ true → sequenceAt (1 - k) < sequenceAt k → active rs ≡ Sector k)
+      (λ (u : usableAt 0 ≡ true) (o : usableAt 1 ≡ true) (l : sequenceAt 1 < sequenceAt 0). simp (u, o, le-ltb (sequenceAt 0) (sequenceAt 1) (omega arith)))
+      (λ (u : usableAt 1 ≡ true) (o : usableAt 0 ≡ true) (l : sequenceAt 0 < sequenceAt 1). simp (u, o, lt-ltb (sequenceAt 0) (sequenceAt 1) l))
+
+-- a record stays active where it stays as it is, and the other one stays or is no longer usable
+pub stays-active : (rs left : List Reading) (k : ℕ) → active rs ≡ Sector k → getD left k noReading ≡ getD rs k noReading
+    → (getD left (1 - k) noReading ≡ getD rs (1 - k) noReading) ⊎ (usable (getD left (1 - k) noReading) ≡ false) → active left ≡ Sector k
+unfolding active
+stays-active rs left k e same (inr gone) = only-usable left k (active-below-two rs k e) (ap usable same ∙ active-usable rs k e) gone
+stays-active rs left k e same (inl other) = both k (active-below-two rs k e) same other ∙ e
+  where
+    both : (j : ℕ) → j < 2 → getD left j noReading ≡ getD rs j noReading → getD left (1 - j) noReading ≡ getD rs (1 - j) noReading → active left ≡ active rs
+    both =
+        two (λ (j : ℕ). getD left j noReading ≡ getD rs j noReading → getD left (1 - j) noReading ≡ getD rs (1 - j) noReading → active left ≡ active rs)
+        (λ (a : getD left 0 noReading ≡ getD rs 0 noReading) (b : getD left 1 noReading ≡ getD rs 1 noReading). simp (a, b))
+        (λ (a : getD left 1 noReading ≡ getD rs 1 noReading) (b : getD left 0 noReading ≡ getD rs 0 noReading). simp (a, b))
 
 -- ---- the active record as a part of its sector
 

@@ -1,5 +1,6 @@
 pub mod Activity
 pub mod Cuts
+pub mod Examples
 pub mod Lent
 pub mod ReadingLaw
 pub mod Restating

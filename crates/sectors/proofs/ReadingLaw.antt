@@ -9,10 +9,10 @@ use mathlib.Core.List.{List, [], _∷_}
 use mathlib.Core.Logic.{_⊎_, inl, inr, ⊎-elim}
 use native.Mathlib.Omega.{arith}
 use lib.Dec.{ltb}
-use lib.ListN.{length, getD, replicate, getD-replicate, List·getD-eq-default}
+use lib.ListN.{length, getD, drop, replicate, getD-replicate, List·getD-eq-default, take-append-drop}
 use Rattle.otadata.specs.Words.{bytes}
 use Rattle.otadata.specs.Records.{sequenceField, checkField, good}
-use Rattle.sectors.specs.Sectors.{recordIn, blank, readsAs, cut, reply, sized, singleStore, rewrite}
+use Rattle.sectors.specs.Sectors.{recordIn, blank, readsAs, cut, reply, sized, singleStore, rewrite, slice, withSlice}
 use Rattle.sectors.specs.PowerCut.{Call, rewriteCut, storeRefused, rewriteRefused, refused, allowed, leaves, after, allAllowed, Last, none, last, noted, lastOf, History, Reads, ReadingLaw, StoreByStore}
 use Rattle.otadata.proofs.CheckWord.{check-word-one-to-one}
 use Rattle.otadata.proofs.Goodness.{is-good}
@@ -258,6 +258,10 @@ module _ (s rec : List ℕ) (k : ℕ) (size : length s ≡ 4096) (of-bytes : byt
 
 -- ---- refused calls
 
+-- a slice put back as it was changes nothing
+pub slice-same : (from size : ℕ) (s : List ℕ) → withSlice from size (slice from size s) s ≡ s
+slice-same from size s = simp (take-append-drop size (drop from s), take-append-drop from s)
+
 refusals : (s t : List ℕ) (sizes number : Bool)
     → refused (cond sizes (cond number (reply 0 t) (reply 12 s)) (reply 2 s)) → cond sizes (cond number (reply 0 t) (reply 12 s)) (reply 2 s) .sector ≡ s
 refusals s t true true r = absurd (r refl)
@@ -283,6 +287,10 @@ record Known (l : Last) (s : List ℕ) : Type 0 where
   sound : Sound s
   told : Told l s
 
+-- a slice that comes back as it was keeps it
+put-back : (from size : ℕ) (s : List ℕ) (l : Last) {left : List ℕ} → left ≡ slice from size s → Known l s → Known l (withSlice from size left s)
+put-back from size s l e now = subst (Known l) (sym (ap (λ (x : List ℕ). withSlice from size x s) e ∙ slice-same from size s)) now
+
 -- a call keeps it
 keeps : (c : Call) (s : List ℕ) (l : Last) → allowed c s → Known l s → Known (noted c s l) (leaves c s)
 keeps (rewriteCut rec k) s l (of-bytes, g, upto) now =
@@ -291,8 +299,8 @@ keeps (rewriteCut rec k) s l (of-bytes, g, upto) now =
       sound = record { size = cut-length s rec k ∙ now .sound .size; shape = done .shape };
       told = done .reads;
     }
-keeps (storeRefused rec m) s l r now = subst (Known l) (sym (store-refused s rec m r)) now
-keeps (rewriteRefused rec) s l r now = subst (Known l) (sym (rewrite-refused s rec r)) now
+keeps (storeRefused from size rec m) s l r now = put-back from size s l (store-refused (slice from size s) rec m r) now
+keeps (rewriteRefused from size rec) s l r now = put-back from size s l (rewrite-refused (slice from size s) rec r) now
 
 all-keep : (cs : List Call) (s : List ℕ) (l : Last) → allAllowed cs s → Known l s → Known (lastOf cs s l) (after cs s)
 all-keep [] s l a now = now

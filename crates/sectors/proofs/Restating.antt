@@ -14,8 +14,9 @@ use Rattle.otadata.specs.declared.State.the-variants.{New, Pending, Valid, Inva
 use Rattle.otadata.specs.declared.Verdict.{Verdict}
 use Rattle.otadata.specs.declared.Verdict.the-variants.{None, Good}
 use Rattle.otadata.specs.declared.Reading.{Reading}
+use Rattle.otadata.specs.declared.Made.{Made}
 use Rattle.otadata.specs.Words.{byteOf, checkWord}
-use Rattle.otadata.specs.Records.{sequenceField, labelField, stateField, checkField, stateWord, isState, stateOf, good, reading, recordOf}
+use Rattle.otadata.specs.Records.{sequenceField, labelField, stateField, checkField, stateWord, isState, stateOf, good, reading, recordOf, made}
 use Rattle.sectors.specs.Sectors.{recordIn, sectorReading, cut, Reply, reply, sized, rewrite, restatedVerdict, restated}
 use Rattle.otadata.proofs.Booleans.{true-is-not-false}
 use Rattle.otadata.proofs.Goodness.{is-good}
@@ -80,7 +81,12 @@ module _ (q : ℕ) (label : List ℕ) (state : State) (from-one : 1 ≤ q) (to-l
         word-is-state state,
       )
 
-  fields-read : reading (recordOf q label (stateWord state)) ≡ record { verdict = Good (record { 0 = q }) state; label = label }
+  -- so that is the record made of them
+  pub fields-made : made (record { 0 = q }) label (stateWord state) ≡ record { number = 0; rec = recordOf q label (stateWord state) }
+  unfolding made
+  fields-made = simp fields-good
+
+  pub fields-read : reading (recordOf q label (stateWord state)) ≡ record { verdict = Good (record { 0 = q }) state; label = label }
   fields-read =
       reading-of-good (recordOf q label (stateWord state)) fields-good
       ∙ simp (
@@ -103,6 +109,10 @@ sector-of-record s g = eqb-true _ _ (sector-by (eqb (length s) 4096) s g)
 rewritten : (s rec : List ℕ) → length s ≡ 4096 → length rec ≡ 32 → rewrite s rec ≡ reply 0 (cut rec 4128 s)
 unfolding rewrite
 rewritten s rec e f = simp (right-sizes s rec e f)
+
+-- what was written whole is read
+pub rewritten-reading : (s rec : List ℕ) → length s ≡ 4096 → length rec ≡ 32 → sectorReading (rewrite s rec .sector) ≡ reading rec
+rewritten-reading s rec e f = ap sectorReading (ap (λ (r : Reply). r .sector) (rewritten s rec e f)) ∙ ap reading (finished-record s rec e f)
 
 -- ---- the change of state
 
@@ -144,8 +154,8 @@ module _ (s : List ℕ) (state : State) where
         let h = holds s q old e in
         let n = recordOf (q .0) (sectorReading s .label) (stateWord state) in
         let size = record-length (q .0) (sectorReading s .label) (stateWord state) (h .label-size) in
-        ap sectorReading (is-restated ∙ ap (λ (r : Reply). r .sector) (rewritten s n (h .size) size))
-        ∙ ap reading (finished-record s n (h .size) size)
+        ap sectorReading is-restated
+        ∙ rewritten-reading s n (h .size) size
         ∙ fields-read (q .0) (sectorReading s .label) state (h .from-one) (h .to-last) (h .label-size)
 
 -- ---- a change of state keeps the size
@@ -154,7 +164,7 @@ sized-by : (b : Bool) (s t : List ℕ) → length t ≡ length s → length (con
 sized-by true s t e = e
 sized-by false s t e = refl
 
-rewrite-size : (s rec : List ℕ) → length (rewrite s rec .sector) ≡ length s
+pub rewrite-size : (s rec : List ℕ) → length (rewrite s rec .sector) ≡ length s
 unfolding rewrite
 rewrite-size s rec = sized-by (sized s rec) s (cut rec 4128 s) (cut-length s rec 4128)
 
@@ -173,13 +183,16 @@ module _ (s : List ℕ) (state : State) (r : Reading) (read : r ≡ sectorReadin
   nothing-restated e = (sym (none-restated s state (ap (λ (x : Reading). x .verdict) (sym read) ∙ e)), read)
 
   pub record-restated : (q : Sequence) (old : State) → r .verdict ≡ Good q old
-      → (w : ℕ) → w ≡ stateWord state → (rec : List ℕ) → rec ≡ recordOf (q .0) (r .label) w
-      → (n : ℕ) (t : List ℕ) → reply n t ≡ rewrite s rec
+      → (w : ℕ) → w ≡ stateWord state → (m : Made) → m ≡ made q (r .label) w
+      → (n : ℕ) (t : List ℕ) → reply n t ≡ rewrite s (m .rec)
       → (t ≡ restated state s) × (_≡_ {A = Reading} (record { verdict = Good q state; label = r .label }) (sectorReading t))
-  record-restated q old e w ew rec er n t et =
+  record-restated q old e w ew m em n t et =
       let v : sectorReading s .verdict ≡ Good q old = ap (λ (x : Reading). x .verdict) (sym read) ∙ e in
       let label : r .label ≡ sectorReading s .label = ap (λ (x : Reading). x .label) read in
-      let same : rec ≡ recordOf (q .0) (sectorReading s .label) (stateWord state) = er ∙ simp (label, ew) in
-      let written : t ≡ rewrite s rec .sector = ap (λ (x : Reply). x .sector) et in
+      let h = holds s q old v in
+      let is : made q (r .label) w ≡ made q (sectorReading s .label) (stateWord state) = simp (label, ew) in
+      let same : m .rec ≡ recordOf (q .0) (sectorReading s .label) (stateWord state) =
+      ap (λ (x : Made). x .rec) (em ∙ is ∙ fields-made (q .0) (sectorReading s .label) state (h .from-one) (h .to-last) (h .label-size)) in
+      let written : t ≡ rewrite s (m .rec) .sector = ap (λ (x : Reply). x .sector) et in
       let left : t ≡ restated state s = written ∙ ap (λ (x : List ℕ). rewrite s x .sector) same ∙ sym (is-restated s state q old v) in
       (left, (simp label) ∙ sym (ap sectorReading left ∙ restated-reading s state q old v))

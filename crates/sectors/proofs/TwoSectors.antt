@@ -1,29 +1,26 @@
 -- The two sectors of otadata: what is written into one of them, and what both then read as.
 -- Assumes nothing.
-use Prim.Native.Nat.{ℕ, zero, suc, _+_, _-_, _*_, _<_, _≤_}
+use Prim.Native.Nat.{ℕ, _+_, _-_, _*_, _<_, _≤_}
 use mathlib.Core.Path.{_≡_, _∙_, refl, ap}
 use mathlib.Core.Bool.{Bool, true, false, cond}
 use mathlib.Core.List.{List, [], _∷_, _++_}
 use native.Mathlib.Omega.{arith}
-use lib.ListN.{length, getD, set, take, drop, length-append, length-take, length-drop, take-append-drop}
+use lib.ListN.{length, getD, set, take, drop, length-append, length-take, length-drop}
 use lib.Seq.{length-take-le, take-at, drop-at}
 use Rattle.otadata.specs.declared.Sequence.{Sequence}
 use Rattle.otadata.specs.declared.State.{State}
 use Rattle.otadata.specs.declared.Verdict.the-variants.{None, Good}
 use Rattle.otadata.specs.declared.Reading.{Reading}
-use Rattle.sectors.specs.Sectors.{sectorReading, restated, sectorAt, withSector, readingsOf, withState}
-use Rattle.sectors.proofs.Restating.{none-restated, restated-reading, restated-size}
-
--- what holds of 0 and of 1 holds of every sector number
-pub two : (P : ℕ → Type 0) → P 0 → P 1 → (k : ℕ) → k < 2 → P k
-two P p0 p1 zero l = p0
-two P p0 p1 (suc zero) l = p1
-two P p0 p1 (suc (suc k)) l = absurd (omega arith)
+use Rattle.otadata.specs.Records.{reading}
+use Rattle.sectors.specs.Sectors.{sectorReading, rewrite, restated, sectorAt, withSector, readingsOf, withState, withRecord}
+use Rattle.sectors.proofs.ReadingLaw.{slice-same}
+use Rattle.sectors.proofs.Restating.{none-restated, restated-reading, restated-size, rewrite-size, rewritten-reading}
+use Rattle.sectors.proofs.Activity.{two}
 
 -- ---- one sector of otadata
 
 pub with-same : (k : ℕ) (o : List ℕ) → withSector k (sectorAt k o) o ≡ o
-with-same k o = simp (take-append-drop 4096 (drop (k * 4096) o), take-append-drop (k * 4096) o)
+with-same k o = slice-same (k * 4096) 4096 o
 
 module _ (k : ℕ) (o : List ℕ) (fits : k * 4096 + 4096 ≤ length o) where
   pub sector-size : length (sectorAt k o) ≡ 4096
@@ -86,6 +83,29 @@ module _ (state : State) (k : ℕ) (o : List ℕ) where
     pub tested-other : (b : Bool) → sectorAt (1 - k) (cond b (withState state k o) o) ≡ sectorAt (1 - k) o
     tested-other true = with-state-other
     tested-other false = refl
+
+-- ---- another record in one sector
+
+module _ (rec : List ℕ) (sized : length rec ≡ 32) (k : ℕ) (l : k < 2) (o : List ℕ) (size : length o ≡ 8192) where
+  there : length (sectorAt k o) ≡ 4096
+  there = sector-size k o (omega arith)
+
+  rewritten-sector : length (rewrite (sectorAt k o) rec .sector) ≡ 4096
+  rewritten-sector = rewrite-size (sectorAt k o) rec ∙ there
+
+  pub with-record-size : length (withRecord rec k o) ≡ 8192
+  unfolding withRecord
+  with-record-size = with-sector-size k o (omega arith) (rewrite (sectorAt k o) rec .sector) rewritten-sector ∙ size
+
+  pub with-record-other : sectorAt (1 - k) (withRecord rec k o) ≡ sectorAt (1 - k) o
+  unfolding withRecord
+  with-record-other = sector-other k l o size (rewrite (sectorAt k o) rec .sector) rewritten-sector
+
+  pub with-record-reading : sectorReading (sectorAt k (withRecord rec k o)) ≡ reading rec
+  unfolding withRecord
+  with-record-reading =
+      ap sectorReading (sector-same k o (omega arith) (rewrite (sectorAt k o) rec .sector) rewritten-sector)
+      ∙ rewritten-reading (sectorAt k o) rec there sized
 
 -- ---- both readings
 

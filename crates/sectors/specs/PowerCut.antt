@@ -7,7 +7,7 @@ use mathlib.Core.Logic.{_⊎_}
 use lib.ListN.{length}
 use Rattle.otadata.specs.Words.{bytes}
 use Rattle.otadata.specs.Records.{good}
-use Rattle.sectors.specs.Sectors.{recordIn, blank, readsAs, cut, Reply, reply, singleStore, rewrite}
+use Rattle.sectors.specs.Sectors.{recordIn, blank, readsAs, cut, Reply, reply, singleStore, rewrite, slice, withSlice}
 
 -- a cut is what single stores leave: store k, called on a sector cut at k, replies 0 and leaves it cut at k + 1
 unfoldable pub StoreByStore : Type 0
@@ -17,11 +17,12 @@ StoreByStore =
 
 -- ---- the calls on one sector
 
--- a rewrite with a record, cut at k (finished where k is 4,128); or a single store or a whole rewrite that the library refuses
+-- a rewrite with a record, cut at k (finished where k is 4,128); or a single store or a whole rewrite that the library refuses, lent any
+-- slice of the sector: for its size, or whole for its record or store number
 pub data Call : Type 0 where
   rewriteCut : (rec : List ℕ) (k : ℕ) → Call
-  storeRefused : (rec : List ℕ) (m : ℕ) → Call
-  rewriteRefused : (rec : List ℕ) → Call
+  storeRefused : (from size : ℕ) (rec : List ℕ) (m : ℕ) → Call
+  rewriteRefused : (from size : ℕ) (rec : List ℕ) → Call
 
 abbrev pub refused : Reply → Type 0
 refused r = r .number ≡ 0 → ⊥
@@ -29,14 +30,14 @@ refused r = r .number ≡ 0 → ⊥
 -- what may be called on a sector of these bytes: a rewrite with a good record, cut at 0 to 4,128, or a call that is indeed refused
 abbrev pub allowed : Call → List ℕ → Type 0
 allowed (rewriteCut rec k) s = bytes rec × (good rec ≡ true) × (k ≤ 4128)
-allowed (storeRefused rec m) s = refused (singleStore s rec m)
-allowed (rewriteRefused rec) s = refused (rewrite s rec)
+allowed (storeRefused from size rec m) s = refused (singleStore (slice from size s) rec m)
+allowed (rewriteRefused from size rec) s = refused (rewrite (slice from size s) rec)
 
 -- the bytes that a call leaves
 abbrev pub leaves : Call → List ℕ → List ℕ
 leaves (rewriteCut rec k) s = cut rec k s
-leaves (storeRefused rec m) s = singleStore s rec m .sector
-leaves (rewriteRefused rec) s = rewrite s rec .sector
+leaves (storeRefused from size rec m) s = withSlice from size (singleStore (slice from size s) rec m .sector) s
+leaves (rewriteRefused from size rec) s = withSlice from size (rewrite (slice from size s) rec .sector) s
 
 -- the bytes that a list of calls leaves, each on the bytes that the one before left
 abbrev pub after : List Call → List ℕ → List ℕ
@@ -56,8 +57,8 @@ pub data Last : Type 0 where
 
 abbrev pub noted : Call → List ℕ → Last → Last
 noted (rewriteCut rec k) s l = last s rec k
-noted (storeRefused rec m) s l = l
-noted (rewriteRefused rec) s l = l
+noted (storeRefused from size rec m) s l = l
+noted (rewriteRefused from size rec) s l = l
 
 -- the last rewrite of the calls from s on, where l was the last before them
 abbrev pub lastOf : List Call → List ℕ → Last → Last

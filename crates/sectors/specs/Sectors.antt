@@ -50,7 +50,7 @@ abbrev pub highestOf : (Reading → Bool) → List Reading → Holder
 highestOf test rs =
     let first = getD rs 0 noReading in
     let second = getD rs 1 noReading in
-    higherOf (test first) (test second) (ltb (sequenceIn (first .verdict)) (sequenceIn (second .verdict)))
+    higherOf (test first) (test second) (ltb (sequenceIn (first .verdict) .0) (sequenceIn (second .verdict) .0))
 
 -- document 01's term *active*: the usable record with the higher sequence, sector 0 on a tie
 unfoldable pub active : List Reading → Holder
@@ -123,15 +123,25 @@ restatedVerdict (Good q old) label state s = rewrite s (recordOf (q .0) label (s
 unfoldable pub restated : State → List ℕ → List ℕ
 restated state s = restatedVerdict (sectorReading s .verdict) (sectorReading s .label) state s
 
--- ---- the two sectors of otadata, by number
+-- ---- a slice of lent bytes
+
+-- the `size` bytes from `from` on; where the bytes end before that, the shorter rest
+abbrev pub slice : ℕ → ℕ → List ℕ → List ℕ
+slice from size s = take size (drop from s)
+
+-- other bytes in place of that slice
+abbrev pub withSlice : ℕ → ℕ → List ℕ → List ℕ → List ℕ
+withSlice from size new s = take from s ++ (new ++ drop size (drop from s))
+
+-- ---- the two sectors of otadata, by number: sector 0, then sector 1, 4,096 bytes each
 
 -- sector k; where otadata ends before it does, the shorter rest, which is no sector
 abbrev pub sectorAt : ℕ → List ℕ → List ℕ
-sectorAt k o = take 4096 (drop (k * 4096) o)
+sectorAt k o = slice (k * 4096) 4096 o
 
 -- otadata with other bytes in sector k
 abbrev pub withSector : ℕ → List ℕ → List ℕ → List ℕ
-withSector k s o = take (k * 4096) o ++ (s ++ drop 4096 (drop (k * 4096) o))
+withSector k s o = withSlice (k * 4096) 4096 s o
 
 -- what both sectors read as
 abbrev pub readingsOf : List ℕ → List Reading

@@ -40,7 +40,7 @@ pub fn active(readings: [Reading; 2]) -> Holder
 {
     let first = readings[0];
     let second = readings[1];
-    let higher = sequence_of(first) < sequence_of(second);
+    let higher = sequence_of(first).0 < sequence_of(second).0;
     higher_of(usable(first), usable(second), higher)
 }
 

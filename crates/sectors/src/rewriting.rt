@@ -11,7 +11,7 @@ use otadata::RECORD_SIZE;
 use otadata::Reading;
 use otadata::State;
 use otadata::Verdict;
-use otadata::fields;
+use otadata::make;
 
 // Whether a sector and a record of a rewrite have their sizes.
 fn sized(sector: &[u8], rec: &[u8]) -> bool
@@ -67,8 +67,8 @@ pub fn restate(sector: &mut [u8], state: State) -> Reading
         return reading;
     };
     let label = reading.label;
-    let rec = fields(sequence, label, state.word());
-    rewrite(sector, &rec);
+    let made = make(sequence, label, state.word());
+    rewrite(sector, &made.rec);
     Reading {
         verdict: Verdict::Good(sequence, state),
         label,

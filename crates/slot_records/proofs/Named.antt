@@ -23,15 +23,15 @@ use Rattle.slot_records.specs.Naming.{names, ifNames, activeNaming, high
 -- ---- one record
 
 pub slot-decides : (r : Reading) (q : Sequence) (state : State) → r .verdict ≡ Good q state
-    → (n s : ℕ) (slot : Slot) → slot .0 ≡ namesSlot n (q .0) → eqb (slot .0) s ≡ names n s (r .verdict)
+    → (n : ℕ) (s slot : Slot) → slot ≡ namesSlot n q → eqb (slot .0) (s .0) ≡ names n s (r .verdict)
 slot-decides r q state e n s slot named = simp (e, named)
 
 -- ---- both readings
 
-pub highest-names : (rs : List Reading) → length rs ≡ 2 → (d : Reading) (n s : ℕ)
-    → (a : ℕ) → a ≡ sequenceIn (getD rs 0 d .verdict) → (b : ℕ) → b ≡ sequenceIn (getD rs 1 d .verdict)
+pub highest-names : (rs : List Reading) → length rs ≡ 2 → (d : Reading) (n : ℕ) (s : Slot)
+    → (a : Sequence) → a ≡ sequenceIn (getD rs 0 d .verdict) → (b : Sequence) → b ≡ sequenceIn (getD rs 1 d .verdict)
     → (first : Bool) → first ≡ names n s (getD rs 0 d .verdict) → (second : Bool) → second ≡ names n s (getD rs 1 d .verdict)
-    → (h : Holder) → h ≡ higherOf first second (ltb a b) → h ≡ highestNaming n s rs
+    → (h : Holder) → h ≡ higherOf first second (ltb (a .0) (b .0)) → h ≡ highestNaming n s rs
 unfolding highestNaming
 highest-names rs size d n s = higher-by (λ (r : Reading). names n s (r .verdict)) rs size d
 
@@ -51,7 +51,7 @@ module _ (rs : List Reading) (size : length rs ≡ 2) (h : Holder) (found : h �
   unfolding activePending
   pending-decides k e d t tested = tested ∙ simp (← found, e, at-active k e d)
 
-  module _ (n s : ℕ) where
+  module _ (n : ℕ) (s : Slot) where
     pub no-active-names : h ≡ None → None ≡ activeNaming n s rs
     unfolding activeNaming
     no-active-names e = simp (← found, e)
@@ -65,7 +65,7 @@ module _ (rs : List Reading) (size : length rs ≡ 2) (h : Holder) (found : h �
       unfolding activeNaming
       active-names-other f = simp (← found, e, at-active k e d, ← tested, f)
 
-module _ (rs : List Reading) (n s : ℕ) (h : Holder) (found : h ≡ activeNaming n s rs) where
+module _ (rs : List Reading) (n : ℕ) (s : Slot) (h : Holder) (found : h ≡ activeNaming n s rs) where
   pub by-active : (k : ℕ) → h ≡ Sector k → Sector k ≡ namingRecord n s rs
   unfolding namingRecord
   by-active k e = simp (← found, e)
@@ -80,7 +80,7 @@ by-name : (b : Bool) (j k : ℕ) → cond b (Sector j) None ≡ Sector k → Sec
 by-name true j k e = e
 by-name false j k e = absurd (let z : _≡_ {A = ℕ} 0 1 = cc in omega arith)
 
-module _ (n s : ℕ) (rs : List Reading) where
+module _ (n : ℕ) (s : Slot) (rs : List Reading) where
   if-names : (h : Holder) (k : ℕ) → ifNames n s rs h ≡ Sector k → h ≡ Sector k
   if-names None k e = e
   if-names (Sector j) k e = by-name (names n s (getD rs j noReading .verdict)) j k e
@@ -97,7 +97,7 @@ module _ (n s : ℕ) (rs : List Reading) where
   highest-below-two k e =
       let first = getD rs 0 noReading .verdict in
       let second = getD rs 1 noReading .verdict in
-      by-usable (names n s first) (names n s second) (ltb (sequenceIn first) (sequenceIn second)) k e
+      by-usable (names n s first) (names n s second) (ltb (sequenceIn first .0) (sequenceIn second .0)) k e
 
   first-holder : (a b : Holder) (k : ℕ) → orHolder a b ≡ Sector k → (a ≡ Sector k → k < 2) → (b ≡ Sector k → k < 2) → k < 2
   first-holder None b k e by-first by-second = by-second e

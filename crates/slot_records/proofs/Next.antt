@@ -1,4 +1,4 @@
--- The smallest sequence above another that names a slot: the law over n, and the two ways in which the code finds it.
+-- The smallest sequence above another that names a slot: the law over n, and how far above the other the code finds it.
 -- Assumes nothing.
 use Prim.Native.Nat.{ℕ, zero, suc, _+_, _-_, _%_, _<_, _≤_}
 use mathlib.Core.Path.{_≡_, _∙_, sym, ap}
@@ -7,6 +7,8 @@ use mathlib.Core.Logic.{⊎-elim}
 use native.Mathlib.Nat.{mod-lt, mod-eq-of-lt, mod-add-mod, add-mod-right, mod-eq-sub-mod}
 use native.Mathlib.Omega.{arith}
 use borrow.Author.Tests.{eq-eqb, ne-eqb, eqb-true}
+use Rattle.otadata.specs.declared.Slot.{Slot}
+use Rattle.otadata.specs.declared.Sequence.{Sequence}
 use Rattle.otadata.specs.Records.{namesSlot}
 use Rattle.otadata.proofs.Numbers.{le-or-lt}
 use Rattle.partitions.specs.PartitionList.{firstFrom}
@@ -25,13 +27,6 @@ module _ (p : ℕ → Bool) where
   first-from i zero = omega arith
   first-from i (suc k) = first-by (p i) i (firstFrom (i + 1) k p) (omega (arith, first-from (i + 1) k))
 
-  first-absent : ((j : ℕ) → p j ≡ false) → (i k : ℕ) → firstFrom i k p ≡ i + k
-  unfolding firstFrom
-  first-absent none i zero = omega arith
-  first-absent none i (suc k) =
-      let more : i + 1 + k ≡ i + suc k = omega arith in
-      (simp (none i)) ∙ first-absent none (i + 1) k ∙ more
-
 -- ---- remainders
 
 -- within n numbers no two have the same remainder
@@ -49,30 +44,40 @@ same-remainder a n e l same =
     omega arith)
     (le-or-lt n (t + e))
 
--- ---- the sequence
+-- ---- the sequence, by its number
+
+abbrev numbered : ℕ → Sequence
+numbered x = record { 0 = x }
+
+-- the number of the slot that a sequence names
+abbrev slotOf : ℕ → ℕ → ℕ
+slotOf n x = namesSlot n (numbered x) .0
 
 module _ (n s q : ℕ) (l : s < n) where
+  abbrev slot : Slot
+  slot = record { 0 = s }
+
   -- the number d after q + 1 names the remainder of q + d
-  names-at : (d : ℕ) → namesSlot n (q + 1 + d) ≡ (q + d) % n
+  names-at : (d : ℕ) → slotOf n (q + 1 + d) ≡ (q + d) % n
   unfolding namesSlot
   names-at d =
       let one : q + 1 + d - 1 ≡ q + d = omega arith in
       simp (ne-eqb n 0 (λ (z : n ≡ 0). omega arith), one)
 
   abbrev next : ℕ
-  next = nextSequence n s q
+  next = nextSequence n slot (numbered q) .0
 
   next-above : q + 1 ≤ next
   unfolding nextSequence
-  next-above = first-from (wouldName n s) (q + 1) n
+  next-above = first-from (wouldName n slot) (q + 1) n
 
-  next-names : next < q + 1 + n → namesSlot n next ≡ s
+  next-names : next < q + 1 + n → slotOf n next ≡ s
   unfolding nextSequence
-  next-names m = eqb-true _ _ (first-found (wouldName n s) (q + 1) n m)
+  next-names m = eqb-true _ _ (first-found (wouldName n slot) (q + 1) n m)
 
-  next-least : (x : ℕ) → q < x → x < q + 1 + n → namesSlot n x ≡ s → next ≤ x
+  next-least : (x : ℕ) → q < x → x < q + 1 + n → slotOf n x ≡ s → next ≤ x
   unfolding nextSequence
-  next-least x m k e = first-least (wouldName n s) (q + 1) n x (omega arith) k (eq-eqb _ _ e)
+  next-least x m k e = first-least (wouldName n slot) (q + 1) n x (omega arith) k (eq-eqb _ _ e)
 
   module _ (d : ℕ) (m : d < n) (named : (q + d) % n ≡ s) where
     least : next ≤ q + 1 + d
@@ -82,7 +87,7 @@ module _ (n s q : ℕ) (l : s < n) where
     found-at =
         let e = next - (q + 1) in
         let is : next ≡ q + 1 + e = omega (arith, next-above) in
-        let named-too : (q + e) % n ≡ s = sym (names-at e) ∙ ap (namesSlot n) (sym is) ∙ next-names (omega (arith, least)) in
+        let named-too : (q + e) % n ≡ s = sym (names-at e) ∙ ap (slotOf n) (sym is) ∙ next-names (omega (arith, least)) in
         let apart : q + e + (d - e) ≡ q + d = omega (arith, least, is) in
         let none : d - e ≡ 0 = same-remainder (q + e) n (d - e) (omega arith) (ap (λ (x : ℕ). x % n) apart ∙ named ∙ sym named-too) in
         omega (arith, least, is, none)
@@ -105,36 +110,29 @@ module _ (n s q : ℕ) (l : s < n) where
       (λ (m : s < q % n). omega (arith, found-at (n - q % n + s) (omega (arith, mod-lt q {m = n} (omega arith))) (around m)))
       (le-or-lt (q % n) s)
 
-  next-smallest : Smallest n s q next
+  pub next-smallest : Smallest n slot (numbered q) (numbered next)
   next-smallest = record {
     above = omega (arith, next-above);
-    names = next-names (omega (arith, at-most));
-    smallest = λ (x : ℕ) (m : q < x) (e : namesSlot n x ≡ s).
-        ⊎-elim (λ (far : q + 1 + n ≤ x). omega (arith, at-most)) (λ (near : x < q + 1 + n). next-least x m near e) (le-or-lt (q + 1 + n) x);
+    names = ap (λ (i : ℕ). record { 0 = i }) (next-names (omega (arith, at-most)));
+    smallest = λ (x : Sequence) (m : q < x .0) (e : namesSlot n x ≡ slot).
+        ⊎-elim
+        (λ (far : q + 1 + n ≤ x .0). omega (arith, at-most))
+        (λ (near : x .0 < q + 1 + n). next-least (x .0) m near (ap (λ (i : Slot). i .0) e))
+        (le-or-lt (q + 1 + n) (x .0));
     within = at-most;
   }
 
 pub next-law : NextLaw
 unfolding NextLaw
-next-law n s q l = next-smallest n s q l
+next-law n s q l = next-smallest n (s .0) (q .0) l
 
 -- ---- as the code finds it
 
-module _ (n s q : ℕ) where
-  pub next-up : (s < n) → q % n ≤ s → q + 1 + (s - q % n) ≡ nextSequence n s q
-  next-up l m = sym (found-at n s q l (s - q % n) (omega arith) (up n s q l m))
+module _ (n : ℕ) (s : Slot) (q : Sequence) (l : s .0 < n) where
+  pub steps-up : q .0 % n ≤ s .0 → q .0 + (s .0 - q .0 % n + 1) ≡ nextSequence n s q .0
+  steps-up m = omega (arith, found-at n (s .0) (q .0) l (s .0 - q .0 % n) (omega arith) (up n (s .0) (q .0) l m))
 
-  pub next-around : (s < n) → s < q % n → q + 1 + (n - q % n + s) ≡ nextSequence n s q
-  next-around l m = sym (found-at n s q l (n - q % n + s) (omega (arith, mod-lt q {m = n} (omega arith))) (around n s q l m))
-
--- a number that is not below n is no slot's
-no-name : (n s : ℕ) → 0 < n → n ≤ s → (x : ℕ) → wouldName n s x ≡ false
-unfolding namesSlot
-no-name n s some m x =
-    simp (ne-eqb n 0 (λ (z : n ≡ 0). omega arith))
-    (ne-eqb _ _ (λ (e : (x - 1) % n ≡ s). omega (arith, mod-lt (x - 1) {m = n} some)))
-
-pub next-absent : (n s q : ℕ) → n ≤ s → q + 1 + n ≡ nextSequence n s q
-unfolding nextSequence firstFrom
-next-absent zero s q m = omega arith
-next-absent (suc n) s q m = sym (first-absent (wouldName (suc n) s) (no-name (suc n) s (omega arith) m) (q + 1) (suc n))
+  pub steps-around : s .0 < q .0 % n → q .0 + (n - q .0 % n + s .0 + 1) ≡ nextSequence n s q .0
+  steps-around m =
+      let below = mod-lt (q .0) {m = n} (omega arith) in
+      omega (arith, below, found-at n (s .0) (q .0) l (n - q .0 % n + s .0) (omega (arith, below)) (around n (s .0) (q .0) l m))

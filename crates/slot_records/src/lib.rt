@@ -8,7 +8,8 @@ pub use naming::naming_record;
 use otadata::Sequence;
 pub use placing::place_new;
 
-// Where a new record goes: a sector and the record's sequence, or nowhere, since that sequence would pass the last one.
+// Where a new record goes: a sector and the record's sequence, or nowhere, since there is no such slot or that sequence would pass the
+// last one.
 pub enum Placement {
     Nowhere,
     At(usize, Sequence),

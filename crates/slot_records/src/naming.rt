@@ -13,7 +13,7 @@ use sectors::higher_of;
 
 // The sector of the active record, where that names the slot.
 pub fn active_naming(readings: [Reading; 2], n: u32, slot: Slot) -> Holder
-    ensures { λ r. ⌜ r ≡ activeNaming n (slot .0) readings ⌝ }
+    ensures { λ r. ⌜ r ≡ activeNaming n slot readings ⌝ }
 {
     let holder = active(readings);
     let Holder::Sector(k) = holder else {
@@ -27,7 +27,7 @@ pub fn active_naming(readings: [Reading; 2], n: u32, slot: Slot) -> Holder
 
 // The sector of the active record if that names the slot, else of the good record of highest sequence that does.
 pub fn naming_record(readings: [Reading; 2], n: u32, slot: Slot) -> Holder
-    ensures { λ r. ⌜ r ≡ namingRecord n (slot .0) readings ⌝ }
+    ensures { λ r. ⌜ r ≡ namingRecord n slot readings ⌝ }
 {
     let holder = active_naming(readings, n, slot);
     match holder {
@@ -49,17 +49,17 @@ pub fn active_pending(readings: [Reading; 2]) -> bool
 
 // The sector of the good record of highest sequence that names the slot, sector 0 on a tie.
 fn highest_naming(readings: [Reading; 2], n: u32, slot: Slot) -> Holder
-    ensures { λ r. ⌜ r ≡ highestNaming n (slot .0) readings ⌝ }
+    ensures { λ r. ⌜ r ≡ highestNaming n slot readings ⌝ }
 {
     let first = readings[0];
     let second = readings[1];
-    let higher = sequence_of(first) < sequence_of(second);
+    let higher = sequence_of(first).0 < sequence_of(second).0;
     higher_of(names(first, n, slot), names(second, n, slot), higher)
 }
 
 // Whether the record is good and names the slot.
 fn names(reading: Reading, n: u32, slot: Slot) -> bool
-    ensures { λ r. ⌜ r ≡ Naming·names n (slot .0) (reading .verdict) ⌝ }
+    ensures { λ r. ⌜ r ≡ Naming·names n slot (reading .verdict) ⌝ }
 {
     let verdict = reading.verdict;
     match verdict {

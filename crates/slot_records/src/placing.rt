@@ -1,7 +1,8 @@
 // Where a new record for a slot goes, and its sequence.
 ghost use mathlib.Core.Path.{_≡_};
+ghost use Prim.Native.Nat.{_+_, _<_};
 ghost use Rattle.sectors.specs.Sectors.{active as Sectors·active};
-ghost use Rattle.slot_records.specs.Placing.{nextSequence, newSequence, freeSector, placement};
+ghost use Rattle.slot_records.specs.Placing.{nextSequence, freeSector, placement, activeSequence};
 use crate::Placement;
 use otadata::LAST_SEQUENCE;
 use otadata::Reading;
@@ -13,14 +14,18 @@ use sectors::active;
 
 // Where a new record that names the slot goes, with n slots.
 pub fn place_new(readings: [Reading; 2], n: u32, slot: Slot) -> Placement
-    ensures { λ r. ⌜ r ≡ placement n (slot .0) readings ⌝ }
+    ensures { λ r. ⌜ r ≡ placement n slot readings ⌝ }
 {
-    let holder = active(readings);
-    let sequence = new_sequence(readings, holder, n, slot);
-    if sequence > LAST_SEQUENCE as u64 {
+    if slot.0 >= n {
         return Placement::Nowhere;
     }
-    Placement::At(free_sector(holder), Sequence(sequence as u32))
+    let holder = active(readings);
+    let last = active_sequence(readings, holder);
+    let steps = steps_to(last, n, slot);
+    if last.0 as u64 + steps as u64 > LAST_SEQUENCE as u64 {
+        return Placement::Nowhere;
+    }
+    Placement::At(free_sector(holder), Sequence(last.0 + steps))
 }
 
 // The sector that is not active; without an active record sector 0.
@@ -33,28 +38,25 @@ fn free_sector(holder: Holder) -> usize
     }
 }
 
-// The smallest sequence above the active one that names the slot; without an active record the slot's number and 1.
-fn new_sequence(readings: [Reading; 2], holder: Holder, n: u32, slot: Slot) -> u64
+// The sequence of the active record; without one, 0.
+fn active_sequence(readings: [Reading; 2], holder: Holder) -> Sequence
     requires { ⌜ holder ≡ Sectors·active readings ⌝ }
-    ensures { λ r. ⌜ r ≡ newSequence n (slot .0) readings holder ⌝ }
+    ensures { λ r. ⌜ r ≡ activeSequence readings holder ⌝ }
 {
     match holder {
-        Holder::None => slot.0 as u64 + 1,
-        Holder::Sector(k) => next_sequence(sequence_of(readings[k]), n, slot),
+        Holder::None => Sequence(0),
+        Holder::Sector(k) => sequence_of(readings[k]),
     }
 }
 
-// The smallest sequence above q that names the slot, or q + 1 + n where none does.
-fn next_sequence(q: u32, n: u32, slot: Slot) -> u64
-    ensures { λ r. ⌜ r ≡ nextSequence n (slot .0) q ⌝ }
+// How far above a sequence the next one is that names the slot, with n slots.
+fn steps_to(after: Sequence, n: u32, slot: Slot) -> u32
+    requires { ⌜ slot .0 < n ⌝ }
+    ensures { λ r. ⌜ after .0 + r ≡ nextSequence n slot after .0 ⌝ }
 {
-    let above = q as u64 + 1;
-    if slot.0 >= n {
-        return above + n as u64;
-    }
-    let first = q % n;
+    let first = after.0 % n;
     if first <= slot.0 {
-        return above + (slot.0 - first) as u64;
+        return slot.0 - first + 1;
     }
-    above + (n - first + slot.0) as u64
+    n - first + slot.0 + 1
 }

@@ -101,7 +101,7 @@ marked-readings settings o size =
 
 -- ---- the choice of boot
 
-nothing-or : (settings : Settings) (rs : List Reading) (c : Choice) → choosesNothing (replyTo settings rs c) ≡ not (chosen c)
+nothing-or : (settings : Settings) (rs : List Reading) (c : Choice) → choosesNothing (replyTo settings rs c .reply) ≡ not (chosen c)
 nothing-or settings rs Nothing = refl
 nothing-or settings rs (Through k slot facts) = refl
 nothing-or settings rs (Factory facts) = refl

@@ -6,6 +6,7 @@ use mathlib.Core.Bool.{Bool, true, false}
 use mathlib.Core.List.{List}
 use native.Mathlib.Omega.{arith}
 use lib.ListN.{length, getD}
+use Rattle.otadata.specs.Answers.{viewed}
 use Rattle.otadata.specs.declared.Slot.{Slot}
 use Rattle.otadata.specs.declared.Sequence.{Sequence}
 use Rattle.otadata.specs.declared.State.{State}
@@ -27,6 +28,7 @@ use Rattle.slot_records.specs.Naming.{namingRecord}
 use Rattle.slot_records.proofs.Named.{record-below-two}
 use Rattle.update.specs.declared.Queried.{Queried}
 use Rattle.update.specs.declared.Queried.the-variants.{Refused as NotFound, Found}
+use Rattle.update.specs.Replies.{queryView, nextView}
 use Rattle.update.specs.declared.NextSlot.{NextSlot}
 use Rattle.update.specs.declared.NextSlot.the-variants.{Refused as NoNext, Next}
 use Rattle.update.specs.Tests.{slotTest, runningTest, unconfirmed}
@@ -35,8 +37,8 @@ use Rattle.update.proofs.TestLaws.{below-count}
 
 -- ---- the state query
 
-module _ (n s : ℕ) (rs : List Reading) (size : length rs ≡ 2) (h : Holder) (found : h ≡ namingRecord n s rs) where
-  pub none-names : h ≡ None → NotFound 8 ≡ stateNaming n s rs
+module _ (n : ℕ) (s : Slot) (rs : List Reading) (size : length rs ≡ 2) (h : Holder) (found : h ≡ namingRecord n s rs) where
+  pub none-names : h ≡ None → viewed queryView (NotFound 8) ≡ stateNaming n s rs
   unfolding stateNaming
   none-names e = simp (← found, e)
 
@@ -48,49 +50,52 @@ module _ (n s : ℕ) (rs : List Reading) (size : length rs ≡ 2) (h : Holder) (
       its-reading : getD rs k noReading ≡ getD rs k d
       its-reading = default rs k noReading d (omega (arith, naming-sector))
 
-      pub no-state : getD rs k d .verdict ≡ NotGood → NotFound 8 ≡ stateNaming n s rs
+      pub no-state : getD rs k d .verdict ≡ NotGood → viewed queryView (NotFound 8) ≡ stateNaming n s rs
       unfolding stateNaming
       no-state v = simp (← found, e, its-reading, v)
 
-      pub state-found : (q : Sequence) (state : State) → getD rs k d .verdict ≡ Good q state → Found state ≡ stateNaming n s rs
+      pub state-found : (q : Sequence) (state : State) → getD rs k d .verdict ≡ Good q state → viewed queryView (Found state) ≡ stateNaming n s rs
       unfolding stateNaming
       state-found q state v = simp (← found, e, its-reading, v)
 
-module _ (list : List ℕ) (capacity : ℕ) (o : List ℕ) (s : ℕ) (a : Checked) (node : a ≡ acceptedNode list capacity (length o))
+module _ (list : List ℕ) (capacity : ℕ) (o : List ℕ) (s : Slot) (a : Checked) (node : a ≡ acceptedNode list capacity (length o))
     (c : Checked) (is : c ≡ slotTest s a) where
   by-tests : slotTest s (acceptedNode list capacity (length o)) ≡ c
   by-tests = sym (is ∙ ap (slotTest s) node)
 
-  pub query-refused : (number : ℕ) → c ≡ NotAccepted number → NotFound number ≡ stateQuery list capacity o s
+  pub query-refused : (number : ℕ) → c ≡ NotAccepted number → viewed queryView (NotFound number) ≡ stateQuery list capacity o s
   unfolding stateQuery
   query-refused number e = simp (by-tests, e)
 
   pub query-accepted : (listing : Listing) → c ≡ Accepted listing → (rs : List Reading) → rs ≡ readingsOf o
-      → (r : Queried) → r ≡ stateNaming (listing .slots) s rs → r ≡ stateQuery list capacity o s
+      → (r : Queried) → viewed queryView r ≡ stateNaming (listing .slots) s rs → viewed queryView r ≡ stateQuery list capacity o s
   unfolding stateQuery
   query-accepted listing e rs read r found = found ∙ simp (by-tests, e, read)
 
 -- ---- the next update slot
 
-pub slot-after : (n : ℕ) (running : App) (slot : Slot) → running ≡ OtaSlot slot → (slot .0 + 1) % n ≡ slotAfter n running
+pub from-factory : (n : ℕ) (running : App) → running ≡ Factory → _≡_ {A = Slot} (record { 0 = 0 }) (slotAfter n running)
+from-factory n running e = simp e
+
+pub slot-after : (n : ℕ) (running : App) (slot : Slot) → running ≡ OtaSlot slot → _≡_ {A = Slot} (record { 0 = (slot .0 + 1) % n }) (slotAfter n running)
 slot-after n running slot e = simp e
 
 pub counted-slot : (n : ℕ) (running : App) → Counted n running → (slot : Slot) → running ≡ OtaSlot slot → slot .0 < n
 counted-slot n running counted slot e = rw e at counted
 
 module _ (n : ℕ) (settings : Settings) (running : App) (rs : List Reading) (t : Bool) (tested : t ≡ unconfirmed settings rs) where
-  pub next-unconfirmed : t ≡ true → NoNext 11 ≡ nextOf n settings running rs
+  pub next-unconfirmed : t ≡ true → viewed nextView (NoNext 11) ≡ nextOf n settings running rs
   unfolding nextOf
   next-unconfirmed y = simp (← tested, y)
 
-  pub next-follows : t ≡ false → (s : ℕ) → s ≡ slotAfter n running → Next (record { 0 = s }) ≡ nextOf n settings running rs
+  pub next-follows : t ≡ false → (s : Slot) → s ≡ slotAfter n running → viewed nextView (Next s) ≡ nextOf n settings running rs
   unfolding nextOf
   next-follows f s e = simp (← tested, f, e)
 
 running-counted : (running : App) (a : Checked) (listing : Listing) → runningTest running a ≡ Accepted listing
     → Counted (listing .slots) running
 running-counted Factory a listing e = tt
-running-counted (OtaSlot s) a listing e = below-count (s .0) a listing e .below
+running-counted (OtaSlot s) a listing e = below-count s a listing e .below
 
 module _ (list : List ℕ) (capacity : ℕ) (o : List ℕ) (settings : Settings) (running : App)
     (a : Checked) (before : a ≡ accepted list capacity (length o) settings) (c : Checked) (is : c ≡ runningTest running a) where
@@ -100,11 +105,11 @@ module _ (list : List ℕ) (capacity : ℕ) (o : List ℕ) (settings : Settings)
   pub next-counted : (listing : Listing) → c ≡ Accepted listing → Counted (listing .slots) running
   next-counted listing e = running-counted running a listing (sym is ∙ e)
 
-  pub next-refused : (number : ℕ) → c ≡ NotAccepted number → NoNext number ≡ nextSlot list capacity o settings running
+  pub next-refused : (number : ℕ) → c ≡ NotAccepted number → viewed nextView (NoNext number) ≡ nextSlot list capacity o settings running
   unfolding nextSlot
   next-refused number e = simp (all-tests, e)
 
   pub next-accepted : (listing : Listing) → c ≡ Accepted listing → (rs : List Reading) → rs ≡ readingsOf o
-      → (r : NextSlot) → r ≡ nextOf (listing .slots) settings running rs → r ≡ nextSlot list capacity o settings running
+      → (r : NextSlot) → viewed nextView r ≡ nextOf (listing .slots) settings running rs → viewed nextView r ≡ nextSlot list capacity o settings running
   unfolding nextSlot
   next-accepted listing e rs read r found = found ∙ simp (all-tests, e, read)

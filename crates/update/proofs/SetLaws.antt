@@ -1,7 +1,7 @@
 -- Set-boot, as the code puts it together.
 -- Assumes nothing.
 use Prim.Native.Nat.{ℕ}
-use mathlib.Core.Path.{_≡_, _∙_, ap}
+use mathlib.Core.Path.{_≡_, _∙_, ap, ap₂}
 use mathlib.Core.Bool.{Bool, true, false}
 use mathlib.Core.List.{List}
 use lib.ListN.{replicate}
@@ -19,41 +19,43 @@ use Rattle.slot_records.specs.declared.Placement.the-variants.{Nowhere, At}
 use Rattle.slot_records.specs.Naming.{activeNaming}
 use Rattle.slot_records.specs.Placing.{placement}
 use Rattle.update.specs.declared.Refusal.{Refusal}
+use Rattle.otadata.specs.Answers.{Answered, viewed}
+use Rattle.otadata.specs.declared.Slot.{Slot}
 use Rattle.update.specs.declared.Reply.{Reply}
 use Rattle.update.specs.declared.Reply.the-variants.{Refused}
-use Rattle.update.specs.Replies.{refusal, done, outcome}
+use Rattle.update.specs.Replies.{view, refusal, done, outcome}
 use Rattle.update.specs.Tests.{unconfirmed}
 use Rattle.update.specs.SetBoot.{newState, newRecord, placedAt, pointed}
 
 pub record-made : (settings : Settings) (q : Sequence) (state : State) → state ≡ newState settings → (w : ℕ) → w ≡ stateWord state
-    → (m : Made) → m ≡ made (q .0) (replicate 20 255) w → m .rec ≡ newRecord settings q
+    → (m : Made) → m ≡ made q (replicate 20 255) w → m .rec ≡ newRecord settings q
 unfolding newRecord
 record-made settings q state new w is m made-of = simp (made-of, is, new)
 
 -- ---- 7 and the rewrite
 
 module _ (settings : Settings) (o : List ℕ) (p : Placement) where
-  pub too-high : p ≡ Nowhere → (why : Refusal) → why ≡ refusal settings 7 → outcome (Refused why) o ≡ placedAt settings o p
+  pub too-high : p ≡ Nowhere → (why : Refusal) → why ≡ refusal settings 7 → outcome (viewed view (Refused why)) o ≡ placedAt settings o p
   too-high e why is = simp (e, is)
 
   pub written : (k : ℕ) (q : Sequence) → p ≡ At k q → (rec : List ℕ) → rec ≡ newRecord settings q
-      → (number : ℕ) (left : List ℕ) → reply number left ≡ rewriteAt k o rec → (r : Reply) → r ≡ done (settings .efuse) → outcome r left ≡ placedAt settings o p
+      → (number : ℕ) (left : List ℕ) → reply number left ≡ rewriteAt k o rec → (r : Reply) → viewed view r ≡ done (settings .efuse) → outcome (viewed view r) left ≡ placedAt settings o p
   unfolding rewriteAt
-  written k q e rec new number left put r is = simp (e, is, ap (λ (x : Sectors·Reply). x .sector) put, new)
+  written k q e rec new number left put r is = ap₂ outcome is (ap (λ (x : Sectors·Reply). x .sector) put) ∙ simp (e, new)
 
 -- ---- 11 and what follows
 
-module _ (n s : ℕ) (settings : Settings) (o : List ℕ) (rs : List Reading) (read : rs ≡ readingsOf o) (t : Bool) (tested : t ≡ unconfirmed settings rs) where
-  pub not-confirmed : t ≡ true → (why : Refusal) → why ≡ refusal settings 11 → outcome (Refused why) o ≡ pointed n s settings o
+module _ (n : ℕ) (s : Slot) (settings : Settings) (o : List ℕ) (rs : List Reading) (read : rs ≡ readingsOf o) (t : Bool) (tested : t ≡ unconfirmed settings rs) where
+  pub not-confirmed : t ≡ true → (why : Refusal) → why ≡ refusal settings 11 → outcome (viewed view (Refused why)) o ≡ pointed n s settings o
   unfolding pointed
   not-confirmed y why is = simp (← read, ← tested, y, is)
 
   module _ (f : t ≡ false) (h : Holder) (found : h ≡ activeNaming n s rs) where
-    pub named-already : (k : ℕ) → h ≡ Sector k → (r : Reply) → r ≡ done (settings .efuse) → outcome r o ≡ pointed n s settings o
+    pub named-already : (k : ℕ) → h ≡ Sector k → (r : Reply) → viewed view r ≡ done (settings .efuse) → outcome (viewed view r) o ≡ pointed n s settings o
     unfolding pointed
-    named-already k e r is = simp (← read, ← tested, f, ← found, e, is)
+    named-already k e r is = ap (λ (a : Answered Reply). outcome a o) is ∙ simp (← read, ← tested, f, ← found, e)
 
-    pub placed-new : h ≡ None → (p : Placement) → p ≡ placement n s rs → (r : Reply) (left : List ℕ) → outcome r left ≡ placedAt settings o p
-        → outcome r left ≡ pointed n s settings o
+    pub placed-new : h ≡ None → (p : Placement) → p ≡ placement n s rs → (r : Reply) (left : List ℕ) → outcome (viewed view r) left ≡ placedAt settings o p
+        → outcome (viewed view r) left ≡ pointed n s settings o
     unfolding pointed
     placed-new e p is r left out = out ∙ simp (← read, ← tested, f, ← found, e, is)

@@ -8,6 +8,7 @@ use native.Mathlib.Omega.{arith}
 use lib.Dec.{ltb}
 use borrow.Author.Tests.{lt-ltb, le-ltb, ltb-true, not-true, not-false}
 use denote.Ref.{RefT, now}
+use Rattle.otadata.specs.Answers.{viewed}
 use Rattle.otadata.specs.declared.Slot.{Slot}
 use Rattle.otadata.specs.declared.Reading.{Reading}
 use Rattle.sectors.specs.declared.Holder.{Holder}
@@ -23,7 +24,7 @@ use Rattle.app_image.specs.declared.Facts.{Facts}
 use Rattle.app_image.specs.declared.Refusal.{Refusal as ImageRefusal}
 use Rattle.app_image.specs.declared.Checked.{Checked as ImageChecked}
 use Rattle.app_image.specs.declared.Checked.the-variants.{Refused as ImageRefused, Accepted as ImageAccepted}
-use Rattle.app_image.specs.Check.{check}
+use Rattle.app_image.specs.Check.{view as Image·view, check}
 use Rattle.boot_choice.specs.declared.Settings.{Settings}
 use Rattle.boot_choice.specs.Acceptance.{accepted}
 use Rattle.boot_choice.specs.Choice.{image, tooOld}
@@ -34,7 +35,7 @@ use Rattle.update.specs.declared.Reply.{Reply}
 use Rattle.update.specs.declared.Reply.the-variants.{Refused}
 use Rattle.update.specs.declared.Examined.{Examined}
 use Rattle.update.specs.declared.Examined.the-variants.{Unfit, Fit}
-use Rattle.update.specs.Replies.{noImage, refusalOf, refusal, imageRefusal, Outcome, outcome}
+use Rattle.update.specs.Replies.{view, noImage, refusalOf, refusal, imageRefusal, Outcome, outcome}
 use Rattle.update.specs.Tests.{slotTest, runningTest, acceptedSlot, examined, unconfirmed, afterTests, afterImage, afterNaming}
 
 pub no-image-refused : (settings : Settings) (number : ℕ) (i : ImageRefusal) → i ≡ noImage
@@ -43,41 +44,41 @@ no-image-refused settings number i e = simp e
 
 -- ---- 4
 
-module _ (s : ℕ) (c : Checked) where
+module _ (s : Slot) (c : Checked) where
   pub refused-before : (number : ℕ) → c ≡ NotAccepted number → c ≡ slotTest s c
   unfolding slotTest
   refused-before number e = e ∙ simp e
 
   module _ (listing : Listing) (e : c ≡ Accepted listing) where
-    pub no-such-slot : listing .slots ≤ s → NotAccepted 4 ≡ slotTest s c
+    pub no-such-slot : listing .slots ≤ s .0 → NotAccepted 4 ≡ slotTest s c
     unfolding slotTest
     no-such-slot l = simp (e, le-ltb _ _ l)
 
-    pub such-a-slot : s < listing .slots → Accepted listing ≡ slotTest s c
+    pub such-a-slot : s .0 < listing .slots → Accepted listing ≡ slotTest s c
     unfolding slotTest
     such-a-slot l = simp (e, lt-ltb _ _ l)
 
 -- what is known where test 4 passes
-pub record BelowCount (s : ℕ) (c : Checked) (listing : Listing) : Type 0 where
+pub record BelowCount (s : Slot) (c : Checked) (listing : Listing) : Type 0 where
   pub before : c ≡ Accepted listing
-  pub below : s < listing .slots
+  pub below : s .0 < listing .slots
 
-below-by : (b : Bool) (s : ℕ) (d listing : Listing) → ltb s (d .slots) ≡ b → cond (not b) (NotAccepted 4) (Accepted d) ≡ Accepted listing
+below-by : (b : Bool) (s : Slot) (d listing : Listing) → ltb (s .0) (d .slots) ≡ b → cond (not b) (NotAccepted 4) (Accepted d) ≡ Accepted listing
     → BelowCount s (Accepted d) listing
 below-by true s d listing l e =
     let same : d ≡ listing = cc in
-    record { before = e; below = subst (λ (x : Listing). s < x .slots) same (ltb-true s (d .slots) l) }
+    record { before = e; below = subst (λ (x : Listing). s .0 < x .slots) same (ltb-true (s .0) (d .slots) l) }
 below-by false s d listing l e = absurd (let z : _≡_ {A = ℕ} 0 1 = cc in omega arith)
 
-pub below-count : (s : ℕ) (c : Checked) (listing : Listing) → slotTest s c ≡ Accepted listing → BelowCount s c listing
+pub below-count : (s : Slot) (c : Checked) (listing : Listing) → slotTest s c ≡ Accepted listing → BelowCount s c listing
 unfolding slotTest
 below-count s (NotAccepted number) listing e = absurd (let z : _≡_ {A = ℕ} 0 1 = cc in omega arith)
-below-count s (Accepted d) listing e = below-by (ltb s (d .slots)) s d listing refl e
+below-count s (Accepted d) listing e = below-by (ltb (s .0) (d .slots)) s d listing refl e
 
-pub running-slot : (c : Checked) (running : App) (slot : Slot) → running ≡ OtaSlot slot → (r : Checked) → r ≡ slotTest (slot .0) c → r ≡ runningTest running c
+pub running-slot : (c : Checked) (running : App) (slot : Slot) → running ≡ OtaSlot slot → (r : Checked) → r ≡ slotTest slot c → r ≡ runningTest running c
 running-slot c running slot e r is = is ∙ simp e
 
-pub four-tests : (list : List ℕ) (capacity size : ℕ) (settings : Settings) (s : ℕ) (a : Checked) → a ≡ accepted list capacity size settings
+pub four-tests : (list : List ℕ) (capacity size : ℕ) (settings : Settings) (s : Slot) (a : Checked) → a ≡ accepted list capacity size settings
     → (r : Checked) → r ≡ slotTest s a → r ≡ acceptedSlot list capacity size settings s
 four-tests list capacity size settings s a before r is = is ∙ ap (slotTest s) before
 
@@ -85,8 +86,8 @@ four-tests list capacity size settings s a before r is = is ∙ ap (slotTest s) 
 
 module _ (list : List ℕ) (flash : RefT (List ℕ)) (settings : Settings) (slot : Slot)
     (handed : RefT (List ℕ)) (by-list : part handed ≡ appPart list (part flash) (OtaSlot slot))
-    (c : ImageChecked) (found : c ≡ check (now handed) (settings .chip)) where
-  its-check : check (image list (now flash) (OtaSlot slot)) (settings .chip) ≡ c
+    (c : ImageChecked) (found : viewed Image·view c ≡ check (now handed) (settings .chip)) where
+  its-check : check (image list (now flash) (OtaSlot slot)) (settings .chip) .reply ≡ c
   its-check = checked-image list flash settings (OtaSlot slot) handed by-list c found
 
   pub image-unfit : (why : ImageRefusal) → c ≡ ImageRefused why → (own : ImageRefusal) → own ≡ refusalOf c
@@ -94,7 +95,7 @@ module _ (list : List ℕ) (flash : RefT (List ℕ)) (settings : Settings) (slot
   unfolding examined
   image-unfit why e own is = simp (its-check, is, e)
 
-  module _ (facts : Facts) (e : c ≡ ImageAccepted facts) (t : Bool) (tested : t ≡ tooOld settings (facts .version .0)) where
+  module _ (facts : Facts) (e : c ≡ ImageAccepted facts) (t : Bool) (tested : t ≡ tooOld settings (facts .version)) where
     pub version-unfit : t ≡ true → (why : Refusal) → why ≡ refusal settings 6 → Unfit why ≡ examined list (now flash) settings slot
     unfolding examined
     version-unfit y why is = simp (its-check, e, ← tested, y, is)
@@ -118,23 +119,23 @@ module _ (settings : Settings) (rs : List Reading) where
 
 module _ (settings : Settings) (o : List ℕ) (a c : Checked) (is : c ≡ a) (rest : ℕ → Outcome) where
   pub tests-refused : (number : ℕ) → c ≡ NotAccepted number → (why : Refusal) → why ≡ refusal settings number
-      → outcome (Refused why) o ≡ afterTests settings o a rest
+      → outcome (viewed view (Refused why)) o ≡ afterTests settings o a rest
   tests-refused number e why w = simp (← is, e, w)
 
-  pub tests-accepted : (listing : Listing) → c ≡ Accepted listing → (r : Reply) (left : List ℕ) → outcome r left ≡ rest (listing .slots)
-      → outcome r left ≡ afterTests settings o a rest
+  pub tests-accepted : (listing : Listing) → c ≡ Accepted listing → (r : Reply) (left : List ℕ) → outcome (viewed view r) left ≡ rest (listing .slots)
+      → outcome (viewed view r) left ≡ afterTests settings o a rest
   tests-accepted listing e r left out = out ∙ simp (← is, e)
 
 module _ (o : List ℕ) (a t : Examined) (is : t ≡ a) (rest : Facts → Outcome) where
-  pub image-refused : (why : Refusal) → t ≡ Unfit why → outcome (Refused why) o ≡ afterImage o a rest
+  pub image-refused : (why : Refusal) → t ≡ Unfit why → outcome (viewed view (Refused why)) o ≡ afterImage o a rest
   image-refused why e = simp (← is, e)
 
-  pub image-accepted : (facts : Facts) → t ≡ Fit facts → (r : Reply) (left : List ℕ) → outcome r left ≡ rest facts
-      → outcome r left ≡ afterImage o a rest
+  pub image-accepted : (facts : Facts) → t ≡ Fit facts → (r : Reply) (left : List ℕ) → outcome (viewed view r) left ≡ rest facts
+      → outcome (viewed view r) left ≡ afterImage o a rest
   image-accepted facts e r left out = out ∙ simp (← is, e)
 
-module _ (settings : Settings) (o : List ℕ) (n s : ℕ) (rs : List Reading) (read : rs ≡ readingsOf o)
+module _ (settings : Settings) (o : List ℕ) (n : ℕ) (s : Slot) (rs : List Reading) (read : rs ≡ readingsOf o)
     (h : Holder) (found : h ≡ activeNaming n s rs) (rest : ℕ → Outcome) where
   pub not-named : h ≡ None → (why : Refusal) → why ≡ refusal settings 8
-      → outcome (Refused why) o ≡ afterNaming settings o (activeNaming n s (readingsOf o)) rest
+      → outcome (viewed view (Refused why)) o ≡ afterNaming settings o (activeNaming n s (readingsOf o)) rest
   not-named e why w = simp (← read, ← found, e, w)

@@ -7,6 +7,7 @@ use lib.ListN.{length}
 use Rattle.otadata.specs.declared.Slot.{Slot}
 use Rattle.otadata.specs.declared.State.the-variants.{Valid, Invalid}
 use Rattle.sectors.specs.Sectors.{sectorReading, sectorAt, readingsOf, withState}
+use Rattle.efuse.specs.declared.SecureVersion.{SecureVersion}
 use Rattle.efuse.specs.Register.{width, raised}
 use Rattle.app_image.specs.declared.Facts.{Facts}
 use Rattle.boot_choice.specs.declared.Settings.{Settings}
@@ -25,23 +26,23 @@ unfoldable pub confirmed : ℕ → List ℕ → List ℕ
 confirmed k o = cond (inState Valid (sectorReading (sectorAt k o) .verdict)) o (withState Valid k o)
 
 -- with anti-rollback on, the register raised to the app's version
-abbrev pub registerRaised : Settings → ℕ → ℕ
-registerRaised settings v = cond (settings .«anti_rollback») (raised width (settings .efuse) v) (settings .efuse)
+abbrev pub registerRaised : Settings → SecureVersion → ℕ
+registerRaised settings v = cond (settings .«anti_rollback») (raised width (settings .efuse) (v .0)) (settings .efuse)
 
 -- the mark of the record of sector k, of an app with these facts
 abbrev pub confirms : Settings → ℕ → List ℕ → Facts → Outcome
-confirms settings k o facts = outcome (done (registerRaised settings (facts .version .0))) (confirmed k o)
+confirms settings k o facts = outcome (done (registerRaised settings (facts .version))) (confirmed k o)
 
 -- 8, then 5 and 6, with n slots
 abbrev pub validNamed : List ℕ → List ℕ → List ℕ → Settings → Slot → ℕ → Outcome
 validNamed list flash o settings s n =
-    afterNaming settings o (activeNaming n (s .0) (readingsOf o))
+    afterNaming settings o (activeNaming n s (readingsOf o))
     (λ (k : ℕ). afterImage o (examined list flash settings s) (confirms settings k o))
 
 -- document 01's mark-valid of the running slot s
 unfoldable pub markValid : List ℕ → List ℕ → List ℕ → Settings → Slot → Outcome
 markValid list flash o settings s =
-    afterTests settings o (acceptedSlot list (length flash) (length o) settings (s .0)) (validNamed list flash o settings s)
+    afterTests settings o (acceptedSlot list (length flash) (length o) settings s) (validNamed list flash o settings s)
 
 -- ---- mark-invalid
 
@@ -58,10 +59,10 @@ unlessLast list flash settings o left =
 -- 8, then 9, with n slots; the active record becomes invalid
 abbrev pub invalidNamed : List ℕ → List ℕ → List ℕ → Settings → Slot → ℕ → Outcome
 invalidNamed list flash o settings s n =
-    afterNaming settings o (activeNaming n (s .0) (readingsOf o))
+    afterNaming settings o (activeNaming n s (readingsOf o))
     (λ (k : ℕ). unlessLast list flash settings o (withState Invalid k o))
 
 -- document 01's mark-invalid of the running slot s
 unfoldable pub markInvalid : List ℕ → List ℕ → List ℕ → Settings → Slot → Outcome
 markInvalid list flash o settings s =
-    afterTests settings o (acceptedSlot list (length flash) (length o) settings (s .0)) (invalidNamed list flash o settings s)
+    afterTests settings o (acceptedSlot list (length flash) (length o) settings s) (invalidNamed list flash o settings s)

@@ -1,7 +1,9 @@
 -- What the calls reply, in document 01's numbers and values.
 use Prim.Native.Nat.{ℕ}
 use mathlib.Core.List.{List, [], _∷_}
-use Rattle.otadata.specs.Answers.{Answer}
+use Rattle.otadata.specs.Answers.{Answer, Answered, answers}
+use Rattle.otadata.specs.declared.Slot.{Slot}
+use Rattle.otadata.specs.declared.State.{State}
 use Rattle.otadata.specs.Records.{stateWord}
 use Rattle.app_image.specs.declared.Refusal.{Refusal as ImageRefusal}
 use Rattle.app_image.specs.declared.Checked.{Checked as ImageChecked}
@@ -50,16 +52,38 @@ refusal settings number = record { number = number; image = noImage; register = 
 abbrev pub imageRefusal : Settings → ImageRefusal → Refusal
 imageRefusal settings image = record { number = 5; image = image; register = settings .efuse }
 
-abbrev pub refused : Settings → ℕ → Reply
-refused settings number = Refused (refusal settings number)
+-- its number, with the register, and the number and the place of the image
+abbrev pub refusedBy : Refusal → Answered Reply
+refusedBy why = answers (why .number) (why .register ∷ why .image .number ∷ why .image .place ∷ []) (Refused why)
 
-abbrev pub done : ℕ → Reply
-done register = Done (record { register = register })
+abbrev pub refused : Settings → ℕ → Answered Reply
+refused settings number = refusedBy (refusal settings number)
 
--- what a call replies, and the otadata that it leaves
+-- 0, with the register, and no image's refusal
+abbrev pub done : ℕ → Answered Reply
+done register = answers 0 (register ∷ 0 ∷ 0 ∷ []) (Done (record { register = register }))
+
+-- what a call replies, with its number and its values, and the otadata that it leaves
 pub record Outcome : Type 0 where
+  pub answer : Answer
   pub reply : Reply
   pub otadata : List ℕ
 
-abbrev pub outcome : Reply → List ℕ → Outcome
-outcome r o = record { reply = r; otadata = o }
+abbrev pub outcome : Answered Reply → List ℕ → Outcome
+outcome a o = record { answer = a .answer; reply = a .reply; otadata = o }
+
+-- ---- the replies of the queries
+
+abbrev pub notFound : ℕ → Answered Queried
+notFound number = answers number [] (NotFound number)
+
+-- 0, with the word of the state
+abbrev pub found : State → Answered Queried
+found state = answers 0 (stateWord state ∷ []) (Found state)
+
+abbrev pub noNext : ℕ → Answered NextSlot
+noNext number = answers number [] (NoNext number)
+
+-- 0, with the slot
+abbrev pub next : Slot → Answered NextSlot
+next slot = answers 0 (slot .0 ∷ []) (Next slot)

@@ -28,7 +28,7 @@ newState settings = cond (settings .rollback) New Undefined
 
 -- its 32 bytes: the label is 20 bytes 0xFF
 unfoldable pub newRecord : Settings → Sequence → List ℕ
-newRecord settings q = made (q .0) (replicate 20 255) (stateWord (newState settings)) .rec
+newRecord settings q = made q (replicate 20 255) (stateWord (newState settings)) .rec
 
 -- ---- the call
 
@@ -43,7 +43,7 @@ unlessNamed settings o (Sector k) rest = outcome (done (settings .efuse)) o
 unlessNamed settings o None rest = rest
 
 -- 11 and what follows, with n slots
-unfoldable pub pointed : ℕ → ℕ → Settings → List ℕ → Outcome
+unfoldable pub pointed : ℕ → Slot → Settings → List ℕ → Outcome
 pointed n s settings o =
     cond (unconfirmed settings (readingsOf o))
     (outcome (refused settings 11) o)
@@ -51,9 +51,9 @@ pointed n s settings o =
 
 -- 5 and 6, and what follows, with n slots
 abbrev pub setListed : List ℕ → List ℕ → List ℕ → Settings → Slot → ℕ → Outcome
-setListed list flash o settings s n = afterImage o (examined list flash settings s) (λ (facts : Facts). pointed n (s .0) settings o)
+setListed list flash o settings s n = afterImage o (examined list flash settings s) (λ (facts : Facts). pointed n s settings o)
 
 -- document 01's set-boot of slot s
 unfoldable pub setBoot : List ℕ → List ℕ → List ℕ → Settings → Slot → Outcome
 setBoot list flash o settings s =
-    afterTests settings o (acceptedSlot list (length flash) (length o) settings (s .0)) (setListed list flash o settings s)
+    afterTests settings o (acceptedSlot list (length flash) (length o) settings s) (setListed list flash o settings s)

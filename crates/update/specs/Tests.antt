@@ -22,34 +22,33 @@ use Rattle.boot_choice.specs.Choice.{image, tooOld}
 use Rattle.slot_records.specs.Naming.{activePending}
 use Rattle.update.specs.declared.Examined.{Examined}
 use Rattle.update.specs.declared.Examined.the-variants.{Unfit, Fit}
-use Rattle.update.specs.declared.Reply.the-variants.{Refused}
-use Rattle.update.specs.Replies.{refusal, imageRefusal, refused, Outcome, outcome}
+use Rattle.update.specs.Replies.{refusal, imageRefusal, refusedBy, refused, Outcome, outcome}
 
 -- 4: the slot is not below n
-abbrev pub notBelow : ℕ → Listing → Bool
-notBelow s listing = not (ltb s (listing .slots))
+abbrev pub notBelow : Slot → Listing → Bool
+notBelow s listing = not (ltb (s .0) (listing .slots))
 
 -- of what the tests before it left
-unfoldable pub slotTest : ℕ → Checked → Checked
+unfoldable pub slotTest : Slot → Checked → Checked
 slotTest s earlier = refuseIf (notBelow s) 4 earlier
 
 -- 4 of a running app: factory has no slot
 abbrev pub runningTest : App → Checked → Checked
 runningTest Factory earlier = earlier
-runningTest (OtaSlot s) earlier = slotTest (s .0) earlier
+runningTest (OtaSlot s) earlier = slotTest s earlier
 
 -- 1 to 4, of the calls with settings and a slot
-abbrev pub acceptedSlot : List ℕ → ℕ → ℕ → Settings → ℕ → Checked
+abbrev pub acceptedSlot : List ℕ → ℕ → ℕ → Settings → Slot → Checked
 acceptedSlot list capacity size settings s = slotTest s (accepted list capacity size settings)
 
 -- 5, with the image's own refusal, then 6
 abbrev pub held : Settings → ImageChecked → Examined
 held settings (ImageRefused image) = Unfit (imageRefusal settings image)
-held settings (ImageAccepted facts) = cond (tooOld settings (facts .version .0)) (Unfit (refusal settings 6)) (Fit facts)
+held settings (ImageAccepted facts) = cond (tooOld settings (facts .version)) (Unfit (refusal settings 6)) (Fit facts)
 
 -- 5 and 6, of the app of a slot
 unfoldable pub examined : List ℕ → List ℕ → Settings → Slot → Examined
-examined list flash settings s = held settings (check (image list flash (OtaSlot s)) (settings .chip))
+examined list flash settings s = held settings (check (image list flash (OtaSlot s)) (settings .chip) .reply)
 
 -- 11: the active record is pending, with rollback on
 unfoldable pub unconfirmed : Settings → List Reading → Bool
@@ -64,7 +63,7 @@ afterTests settings o (Accepted listing) rest = rest (listing .slots)
 
 -- 5 and 6, then the rest, with the facts of the image
 abbrev pub afterImage : List ℕ → Examined → (Facts → Outcome) → Outcome
-afterImage o (Unfit why) rest = outcome (Refused why) o
+afterImage o (Unfit why) rest = outcome (refusedBy why) o
 afterImage o (Fit facts) rest = rest facts
 
 -- 8, then the rest, with the sector of the record that names the slot

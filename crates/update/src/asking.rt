@@ -1,6 +1,8 @@
 // The state query and the next update slot. They write nothing.
 ghost use mathlib.Core.Path.{_≡_};
 ghost use lib.ListN.{length};
+ghost use Rattle.otadata.specs.Answers.{viewed};
+ghost use Rattle.update.specs.Replies.{queryView, nextView};
 ghost use Rattle.update.specs.Queries.{Counted, stateNaming, stateQuery, slotAfter, nextOf, nextSlot};
 use crate::NOT_NAMED;
 use crate::NextSlot;
@@ -23,7 +25,7 @@ use slot_records::naming_record;
 
 // The state of the record that names the slot.
 pub fn state_query(list: &[u32], flash: &[u8], otadata: &[u8], slot: Slot) -> Queried
-    ensures { λ r. ⌜ r ≡ stateQuery (now (list .entry)) (length (now (flash .entry))) (now (otadata .entry)) (slot .0) ⌝ }
+    ensures { λ r. ⌜ viewed queryView r ≡ stateQuery (now (list .entry)) (length (now (flash .entry))) (now (otadata .entry)) slot ⌝ }
 {
     let accepted = accept_node(list, flash.len(), otadata.len());
     let checked = below_count(accepted, slot);
@@ -35,7 +37,7 @@ pub fn state_query(list: &[u32], flash: &[u8], otadata: &[u8], slot: Slot) -> Qu
 
 // Test 8 and the state, with n slots.
 fn state_naming(readings: [Reading; 2], n: u32, slot: Slot) -> Queried
-    ensures { λ r. ⌜ r ≡ stateNaming n (slot .0) readings ⌝ }
+    ensures { λ r. ⌜ viewed queryView r ≡ stateNaming n slot readings ⌝ }
 {
     let holder = naming_record(readings, n, slot);
     let Holder::Sector(k) = holder else {
@@ -57,7 +59,7 @@ pub fn next_slot(
     settings: Settings,
     running: App,
 ) -> NextSlot
-    ensures { λ r. ⌜ r ≡ nextSlot (now (list .entry)) (length (now (flash .entry))) (now (otadata .entry)) settings running ⌝ }
+    ensures { λ r. ⌜ viewed nextView r ≡ nextSlot (now (list .entry)) (length (now (flash .entry))) (now (otadata .entry)) settings running ⌝ }
 {
     let accepted = accept(list, flash.len(), otadata.len(), settings);
     let checked = known_running(accepted, running);
@@ -70,21 +72,21 @@ pub fn next_slot(
 // Test 11, then the slot after the running app's, with n slots.
 fn next_of(readings: [Reading; 2], settings: Settings, running: App, n: u32) -> NextSlot
     requires { ⌜ Counted n running ⌝ }
-    ensures { λ r. ⌜ r ≡ nextOf n settings running readings ⌝ }
+    ensures { λ r. ⌜ viewed nextView r ≡ nextOf n settings running readings ⌝ }
 {
     if unconfirmed(settings, readings) {
         return NextSlot::Refused(UNCONFIRMED);
     }
-    NextSlot::Next(Slot(slot_after(running, n)))
+    NextSlot::Next(slot_after(running, n))
 }
 
 // The slot after the running app's, of n slots; from factory, slot 0.
-fn slot_after(running: App, n: u32) -> u32
+fn slot_after(running: App, n: u32) -> Slot
     requires { ⌜ Counted n running ⌝ }
     ensures { λ r. ⌜ r ≡ slotAfter n running ⌝ }
 {
     match running {
-        App::Factory => 0,
-        App::OtaSlot(slot) => (slot.0 + 1) % n,
+        App::Factory => Slot(0),
+        App::OtaSlot(slot) => Slot((slot.0 + 1) % n),
     }
 }

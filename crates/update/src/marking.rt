@@ -1,10 +1,11 @@
 // Mark-valid and mark-invalid, of the running app.
 ghost use mathlib.Core.Path.{_≡_};
+ghost use Rattle.otadata.specs.Answers.{viewed};
 ghost use Prim.Native.Nat.{_<_};
 ghost use lib.ListN.{length};
 ghost use Rattle.sectors.specs.Sectors.{sectorReading, sectorAt};
 ghost use Rattle.boot.specs.Boot.{Accepts};
-ghost use Rattle.update.specs.Replies.{outcome};
+ghost use Rattle.update.specs.Replies.{view, outcome};
 ghost use Rattle.update.specs.Tests.{afterImage};
 ghost use Rattle.update.specs.Marks.{confirmed, registerRaised, confirms, validNamed, markValid, invalidNamed, markInvalid};
 ghost use Rattle.update.specs.Fallback.{readingIn, abortedReading, abortedReadings, fallsBack};
@@ -40,7 +41,7 @@ pub fn mark_valid(
     settings: Settings,
     running: Slot,
 ) -> Reply
-    ensures { λ r. ⌜ outcome r (now (otadata .exit)) ≡ markValid (now (list .entry)) (now (flash .entry)) (now (otadata .entry)) settings running ⌝ }
+    ensures { λ r. ⌜ outcome (viewed view r) (now (otadata .exit)) ≡ markValid (now (list .entry)) (now (flash .entry)) (now (otadata .entry)) settings running ⌝ }
 {
     let checked = accept_slot(list, flash.len(), otadata.len(), settings, running);
     match checked {
@@ -65,7 +66,7 @@ fn confirm_named(
     running: Slot,
     n: u32,
 ) -> Reply
-    ensures { λ r. ⌜ outcome r (now (otadata .exit)) ≡ validNamed (now (list .entry)) (now (flash .entry)) (now (otadata .entry)) settings running n ⌝ }
+    ensures { λ r. ⌜ outcome (viewed view r) (now (otadata .exit)) ≡ validNamed (now (list .entry)) (now (flash .entry)) (now (otadata .entry)) settings running n ⌝ }
 {
     let readings = read_both(otadata);
     let holder = active_naming(readings, n, running);
@@ -85,7 +86,7 @@ fn confirm_fit(
     tested: Examined,
 ) -> Reply
     requires { ⌜ reading ≡ sectorReading (sectorAt k (now otadata)) ⌝ }
-    ensures { λ r. ⌜ outcome r (now (otadata .exit)) ≡ afterImage (now (otadata .entry)) tested (confirms settings k (now (otadata .entry))) ⌝ }
+    ensures { λ r. ⌜ outcome (viewed view r) (now (otadata .exit)) ≡ afterImage (now (otadata .entry)) tested (confirms settings k (now (otadata .entry))) ⌝ }
 {
     match tested {
         Examined::Unfit(why) => Reply::Refused(why),
@@ -111,7 +112,7 @@ fn confirm(otadata: &mut [u8], reading: Reading, k: usize)
 
 // With anti-rollback on, the register raised to the app's version.
 fn register_raised(settings: Settings, of: SecureVersion) -> u32
-    ensures { λ r. ⌜ r ≡ registerRaised settings (of .0) ⌝ }
+    ensures { λ r. ⌜ r ≡ registerRaised settings of ⌝ }
 {
     if !settings.anti_rollback {
         return settings.efuse;
@@ -127,7 +128,7 @@ pub fn mark_invalid(
     settings: Settings,
     running: Slot,
 ) -> Reply
-    ensures { λ r. ⌜ outcome r (now (otadata .exit)) ≡ markInvalid (now (list .entry)) (now (flash .entry)) (now (otadata .entry)) settings running ⌝ }
+    ensures { λ r. ⌜ outcome (viewed view r) (now (otadata .exit)) ≡ markInvalid (now (list .entry)) (now (flash .entry)) (now (otadata .entry)) settings running ⌝ }
 {
     let checked = accept_slot(list, flash.len(), otadata.len(), settings, running);
     match checked {
@@ -153,7 +154,7 @@ fn give_up_named(
     n: u32,
 ) -> Reply
     requires { ⌜ (length (now otadata) ≡ 8192) × Accepts (now list) (length (now flash)) 8192 settings ⌝ }
-    ensures { λ r. ⌜ outcome r (now (otadata .exit)) ≡ invalidNamed (now (list .entry)) (now (flash .entry)) (now (otadata .entry)) settings running n ⌝ }
+    ensures { λ r. ⌜ outcome (viewed view r) (now (otadata .exit)) ≡ invalidNamed (now (list .entry)) (now (flash .entry)) (now (otadata .entry)) settings running n ⌝ }
 {
     let readings = read_both(otadata);
     let failing = active_naming(readings, n, running);

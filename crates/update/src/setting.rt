@@ -1,6 +1,7 @@
 // Set-boot: the record that names a slot goes into the sector that is not active.
 ghost use mathlib.Core.Path.{_≡_};
-ghost use Rattle.update.specs.Replies.{done, outcome};
+ghost use Rattle.otadata.specs.Answers.{viewed};
+ghost use Rattle.update.specs.Replies.{view, done, outcome};
 ghost use Rattle.update.specs.SetBoot.{newRecord, newState, placedAt, pointed, setListed, setBoot};
 use crate::Completion;
 use crate::Examined;
@@ -32,7 +33,7 @@ pub fn set_boot(
     settings: Settings,
     slot: Slot,
 ) -> Reply
-    ensures { λ r. ⌜ outcome r (now (otadata .exit)) ≡ setBoot (now (list .entry)) (now (flash .entry)) (now (otadata .entry)) settings slot ⌝ }
+    ensures { λ r. ⌜ outcome (viewed view r) (now (otadata .exit)) ≡ setBoot (now (list .entry)) (now (flash .entry)) (now (otadata .entry)) settings slot ⌝ }
 {
     let checked = accept_slot(list, flash.len(), otadata.len(), settings, slot);
     match checked {
@@ -57,7 +58,7 @@ fn set_listed(
     slot: Slot,
     n: u32,
 ) -> Reply
-    ensures { λ r. ⌜ outcome r (now (otadata .exit)) ≡ setListed (now (list .entry)) (now (flash .entry)) (now (otadata .entry)) settings slot n ⌝ }
+    ensures { λ r. ⌜ outcome (viewed view r) (now (otadata .exit)) ≡ setListed (now (list .entry)) (now (flash .entry)) (now (otadata .entry)) settings slot n ⌝ }
 {
     let tested = examine(list, flash, settings, slot);
     match tested {
@@ -68,7 +69,7 @@ fn set_listed(
 
 // Test 11, and what follows it, with n slots. Nothing is written where the active record names the slot already.
 fn point_to(otadata: &mut [u8], settings: Settings, slot: Slot, n: u32) -> Reply
-    ensures { λ r. ⌜ outcome r (now (otadata .exit)) ≡ pointed n (slot .0) settings (now (otadata .entry)) ⌝ }
+    ensures { λ r. ⌜ outcome (viewed view r) (now (otadata .exit)) ≡ pointed n slot settings (now (otadata .entry)) ⌝ }
 {
     let readings = read_both(otadata);
     if unconfirmed(settings, readings) {
@@ -83,7 +84,7 @@ fn point_to(otadata: &mut [u8], settings: Settings, slot: Slot, n: u32) -> Reply
 
 // Test 7, then the rewrite with the new record.
 fn write_new(otadata: &mut [u8], settings: Settings, place: Placement) -> Reply
-    ensures { λ r. ⌜ outcome r (now (otadata .exit)) ≡ placedAt settings (now (otadata .entry)) place ⌝ }
+    ensures { λ r. ⌜ outcome (viewed view r) (now (otadata .exit)) ≡ placedAt settings (now (otadata .entry)) place ⌝ }
 {
     match place {
         Placement::Nowhere => Reply::Refused(refusal(settings, SEQUENCE_TOO_HIGH)),
@@ -96,7 +97,7 @@ fn write_new(otadata: &mut [u8], settings: Settings, place: Placement) -> Reply
 
 // Done, with the register as given.
 fn unchanged(settings: Settings) -> Reply
-    ensures { λ r. ⌜ r ≡ done (settings .efuse) ⌝ }
+    ensures { λ r. ⌜ viewed view r ≡ done (settings .efuse) ⌝ }
 {
     Reply::Done(Completion {
         register: settings.efuse,

@@ -27,7 +27,7 @@ pub(crate) fn accept_slot(
     settings: Settings,
     slot: Slot,
 ) -> Checked
-    ensures { λ r. ⌜ r ≡ acceptedSlot (now (list .entry)) capacity size settings (slot .0) ⌝ }
+    ensures { λ r. ⌜ r ≡ acceptedSlot (now (list .entry)) capacity size settings slot ⌝ }
 {
     below_count(accept(list, capacity, size, settings), slot)
 }
@@ -44,7 +44,7 @@ pub(crate) fn known_running(checked: Checked, running: App) -> Checked
 
 // Test 4, of what the tests before it left.
 pub(crate) fn below_count(checked: Checked, slot: Slot) -> Checked
-    ensures { λ r. ⌜ r ≡ slotTest (slot .0) checked ⌝ }
+    ensures { λ r. ⌜ r ≡ slotTest slot checked ⌝ }
 {
     let Checked::Accepted(listing) = checked else {
         return checked;

@@ -67,7 +67,13 @@ fn record(case: &[u8]) -> [u32; 5] {
     with_sum(number, &rec)
 }
 
-// The length and the sum of a part of the flash.
+// The length and the sum of a part of the flash, and its first word: that is the place of the part where the flash was filled so.
 fn of_part(found: &[u8]) -> [u32; 5] {
-    [(found.len() % 4294967296) as u32, sum(found), 0, 0, 0]
+    [
+        (found.len() % 4294967296) as u32,
+        sum(found),
+        word_at(found, 0),
+        0,
+        0,
+    ]
 }

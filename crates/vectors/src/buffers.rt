@@ -62,15 +62,23 @@ pub(crate) fn fill(bytes: &mut [u8], front: &[u8], filler: u32) {
     }
 }
 
-// Byte i of a filled slice. After the front it is the filler's low byte, to which its next byte, 0 or 1, says whether a number is added
-// that differs from place to place, and from unit to unit of 256 and of 65,536 bytes.
+// Byte i of a filled slice. After the front it is by the filler's next to lowest byte: with 0 the lowest byte; with 1 that and a number that
+// differs from place to place, and from unit to unit of 256 and of 65,536 bytes; with 2 the word at each multiple of 4 is its place.
 fn filled(front: &[u8], i: usize, filler: u32) -> u8 {
     if i < front.len() {
         return front[i];
     }
     let start = filler as usize % 256;
-    if filler / 256 % 2 == 0 {
-        return start as u8;
-    }
-    ((start + i % 256 * 7 + i / 256 % 256 * 13 + i / 65536 % 256 * 29) % 256) as u8
+    let step = filler / 256 % 256;
+    let byte = match step {
+        0 => start,
+        1 => start + i % 256 * 7 + i / 256 % 256 * 13 + i / 65536 % 256 * 29,
+        _ => match i % 4 {
+            0 => i,
+            1 => i / 256,
+            2 => i / 65536,
+            _ => i / 16777216,
+        },
+    };
+    (byte % 256) as u8
 }

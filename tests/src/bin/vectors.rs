@@ -66,6 +66,7 @@ fn main() {
 }
 
 /// Fills a slice: the bytes of `front`, and after them the filler's start, with its step 1 plus a number that differs from place to place.
+/// No case of this program has the step 2.
 fn fill(part: &mut [u8], front: &[u8], filler: &[u8]) {
     for (i, byte) in part.iter_mut().enumerate() {
         let more = filler[1] as usize * (7 * i + 13 * (i / 256) + 29 * (i / 65536));

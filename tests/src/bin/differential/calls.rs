@@ -331,7 +331,17 @@ impl Run {
                 Some(_) => "set_boot: sector 1 rewritten",
                 None => "set_boot: named already",
             });
+            self.boot_after_set_boot(case, bytes);
         }
+    }
+
+    /// The next boot, on the bytes that a set-boot left, starts the slot that was set.
+    fn boot_after_set_boot(&self, case: &NodeCase, mut otadata: Vec<u8>) {
+        let flash = &self.flash[..case.list.flash_len];
+        let mut out = [0; 4];
+        let number =
+            ffi::boot(ffi::Node { list: &case.list.words, flash, otadata: &mut otadata }, case.settings, &mut out);
+        self.same("boot after set_boot", &Inputs(case), (number, out[0], out[1]), (0, 2, case.target));
     }
 
     fn mark_valid(&mut self, case: &NodeCase) {

@@ -23,11 +23,8 @@ returns c = nothing-restated _ _ _ (c .before .before .read-sector .ensures) (c 
 word-requires : tie.Need-word-requires
 word-requires c κs = search needs
 
-fields-requires : tie.Need-fields-requires
-fields-requires c κs = search needs
-
-slice-aggregate-rewrite : tie.Need-slice-aggregate-rewrite
-slice-aggregate-rewrite c = search needs
+make-requires : tie.Need-make-requires
+make-requires c κs = search needs
 
 rewrite-requires : tie.Need-rewrite-requires
 rewrite-requires c κs = search needs
@@ -38,10 +35,10 @@ same-length-2 c = search needs
 returns-2 : tie.Need-returns-2
 returns-2 c =
     let written = c .before .before in
-    let fields = written .before .before .before in
-    let verdict = fields .before .before .before .before in
+    let made = written .before .before .before .before .before in
+    let verdict = made .before .before .before .before in
     let read = verdict .before .before in
-    record-restated _ _ _ (read .read-sector .ensures) _ _ (verdict .verdict .given .1) _ (fields .before .word .ensures) _ (fields .fields .ensures) _ _ (written .rewrite .ensures)
+    record-restated _ _ _ (read .read-sector .ensures) _ _ (verdict .verdict .given .1) _ (made .before .word .ensures) _ (made .make .ensures) _ _ (written .rewrite .ensures)
 
 pub restate-spec : {M : Type 1} → statement M
 restate-spec =
@@ -53,8 +50,7 @@ restate-spec =
     same-length
     returns
     word-requires
-    fields-requires
-    slice-aggregate-rewrite
+    make-requires
     rewrite-requires
     same-length-2
     returns-2)

@@ -1,21 +1,15 @@
--- `slot_records::placing::new_sequence` meets its contract.
+-- `slot_records::placing::active_sequence` meets its contract.
 -- Assumes nothing.
 use mathlib.Core.Path.{_∙_, sym}
 use native.Mathlib.Omega.{arith}
 use Rattle.sectors.proofs.Activity.{active-below-two}
-use Rattle.slot_records.proofs.Placed.{first-sequence, next-of-active}
+use Rattle.slot_records.proofs.Placed.{none-sequence, sequence-of-active}
 use borrow.Author.Needs.{needs}
-use Rattle.slot_records.proofs.placing.new_sequence.Statement.{statement}
-use Rattle.slot_records.proofs.placing.new_sequence.Tie as tie
+use Rattle.slot_records.proofs.placing.active_sequence.Statement.{statement}
+use Rattle.slot_records.proofs.placing.active_sequence.Tie as tie
 
 enum-told : tie.Need-enum-told
 enum-told c = search needs
-
-cast-result : tie.Need-cast-result
-cast-result c = search needs
-
-add-result : tie.Need-add-result
-add-result c = search needs
 
 enum-known-holder : tie.Need-enum-known-holder
 enum-known-holder c = search needs
@@ -33,26 +27,20 @@ array-copy-out-sequence-of c =
 sequence-of-requires : tie.Need-sequence-of-requires
 sequence-of-requires c κs = search needs
 
-next-sequence-requires : tie.Need-next-sequence-requires
-next-sequence-requires c κs = search needs
-
 returns : tie.Need-returns
-returns c = search first-sequence
+returns c = search none-sequence
 
 returns-2 : tie.Need-returns-2
-returns-2 c = search next-of-active
+returns-2 c = search sequence-of-active
 
-pub new-sequence-spec : {M : Type 1} → statement M
-new-sequence-spec =
+pub active-sequence-spec : {M : Type 1} → statement M
+active-sequence-spec =
     tie.close
     (tie.spec
     enum-told
-    cast-result
-    add-result
     enum-known-holder
     mul-sequence-of
     array-copy-out-sequence-of
     sequence-of-requires
-    next-sequence-requires
     returns
     returns-2)
