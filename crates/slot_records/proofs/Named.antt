@@ -1,7 +1,7 @@
 -- Which record names a slot, as the code decides it.
 -- Assumes nothing.
 use Prim.Native.Nat.{ℕ, _<_}
-use mathlib.Core.Path.{_≡_, _∙_, sym}
+use mathlib.Core.Path.{_≡_, _∙_, refl, sym, subst}
 use mathlib.Core.Bool.{Bool, true, false, cond}
 use mathlib.Core.List.{List}
 use native.Mathlib.Omega.{arith}
@@ -76,18 +76,24 @@ module _ (rs : List Reading) (n : ℕ) (s : Slot) (h : Holder) (found : h ≡ ac
 
 -- ---- a sector that is found is one of two
 
-by-name : (b : Bool) (j k : ℕ) → cond b (Sector j) None ≡ Sector k → Sector j ≡ Sector k
-by-name true j k e = e
+by-name : (b : Bool) (j k : ℕ) → cond b (Sector j) None ≡ Sector k → (b ≡ true) × (Sector j ≡ Sector k)
+by-name true j k e = (refl, e)
 by-name false j k e = absurd (let z : _≡_ {A = ℕ} 0 1 = cc in omega arith)
 
 module _ (n : ℕ) (s : Slot) (rs : List Reading) where
   if-names : (h : Holder) (k : ℕ) → ifNames n s rs h ≡ Sector k → h ≡ Sector k
   if-names None k e = e
-  if-names (Sector j) k e = by-name (names n s (getD rs j noReading .verdict)) j k e
+  if-names (Sector j) k e = by-name (names n s (getD rs j noReading .verdict)) j k e .1
 
   pub naming-is-active : (k : ℕ) → activeNaming n s rs ≡ Sector k → active rs ≡ Sector k
   unfolding activeNaming
   naming-is-active = if-names (active rs)
+
+  -- and its record names the slot
+  pub naming-names : (k : ℕ) → activeNaming n s rs ≡ Sector k → names n s (getD rs k noReading .verdict) ≡ true
+  unfolding activeNaming
+  naming-names k e =
+      by-name (names n s (getD rs k noReading .verdict)) k k (subst (λ (h : Holder). ifNames n s rs h ≡ Sector k) (naming-is-active k e) e) .0
 
   pub naming-below-two : (k : ℕ) → activeNaming n s rs ≡ Sector k → k < 2
   naming-below-two k e = active-below-two rs k (naming-is-active k e)

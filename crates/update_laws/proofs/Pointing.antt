@@ -27,7 +27,8 @@ use Rattle.partitions.specs.declared.Checked.{Checked}
 use Rattle.partitions.specs.declared.Checked.the-variants.{Refused, Accepted}
 use Rattle.boot_choice.specs.Acceptance.{refuseIf, acceptedNode, accepted}
 use Rattle.boot_choice.proofs.Order.{slots-listed}
-use Rattle.update.specs.Tests.{slotTest, acceptedSlot}
+use Rattle.update.specs.Tests.{acceptedSlot}
+use Rattle.update.proofs.TestLaws.{below-count}
 use Rattle.boot_choice.specs.declared.Settings.{Settings}
 use Rattle.partitions.specs.declared.App.the-variants.{OtaSlot}
 use Rattle.app_image.specs.declared.Facts.{Facts}
@@ -39,7 +40,7 @@ use Rattle.boot.proofs.Replies.{afterMarks}
 use Rattle.boot.proofs.ThroughRecords.{UsableOf, through-active}
 use Rattle.boot_laws.proofs.Changes.{left-alone, still-active}
 use Rattle.boot_laws.proofs.PowerCut.{starts-record}
-use Rattle.slot_records.specs.Naming.{names, ifNames, activeNaming}
+use Rattle.slot_records.specs.Naming.{names, activeNaming}
 use Rattle.slot_records.specs.declared.Placement.the-variants.{At}
 use Rattle.slot_records.specs.Placing.{freeSector, placement, activeSequence, Placed, PlacementLaw}
 use Rattle.update.specs.SetBoot.{newState, newRecord}
@@ -49,7 +50,7 @@ use Rattle.otadata.proofs.RecordFields.{record-length}
 use Rattle.sectors.proofs.Restating.{fields-made, fields-read}
 use Rattle.sectors.proofs.Activity.{active-below-two, active-usable, none-usable, only-usable, higher-usable}
 use Rattle.sectors.proofs.TwoSectors.{readings-at, with-record-size, with-record-other, with-record-reading}
-use Rattle.slot_records.proofs.Named.{naming-is-active}
+use Rattle.slot_records.proofs.Named.{naming-is-active, naming-names}
 use Rattle.slot_records.proofs.Placed.{placement-law}
 
 -- ---- the number of slots of an accepted list
@@ -69,8 +70,7 @@ listed-by list capacity size settings listing e = slots-listed list capacity lis
 
 pub listed : (list flash o : List ℕ) (settings : Settings) (s : Slot) (listing : Listing)
     → acceptedSlot list (length flash) (length o) settings s ≡ Accepted listing → listing .slots ≡ slotCount list
-unfolding slotTest
-listed list flash o settings s listing e = listed-by list (length flash) (length o) settings listing (before-test _ 4 _ listing e)
+listed list flash o settings s listing e = listed-by list (length flash) (length o) settings listing (below-count s _ listing e .before)
 
 -- ---- the new record
 
@@ -181,14 +181,6 @@ module _ (list o : List ℕ) (settings : Settings) (s : Slot) (k : ℕ) (named :
   is-active : active (readingsOf o) ≡ Sector k
   is-active = naming-is-active (slotCount list) s (readingsOf o) k named
 
-  named-by : (b : Bool) → cond b (Sector k) None ≡ Sector k → b ≡ true
-  named-by true e = refl
-  named-by false e = absurd (let z : _≡_ {A = ℕ} 0 1 = cc in omega arith)
-
-  does-name : names (slotCount list) s (getD (readingsOf o) k noReading .verdict) ≡ true
-  unfolding activeNaming
-  does-name = named-by _ (subst (λ (h : Holder). ifNames (slotCount list) s (readingsOf o) h ≡ Sector k) is-active named)
-
   points-by : (v : Verdict) → sectorReading (sectorAt k o) .verdict ≡ v → names (slotCount list) s v ≡ true → SetsBoot list o o settings s
   points-by NotGood e n = absurd (true-is-not-false false n refl)
   points-by (Good q state) e n =
@@ -207,7 +199,8 @@ module _ (list o : List ℕ) (settings : Settings) (s : Slot) (k : ℕ) (named :
   pub points-already : SetsBoot list o o settings s
   points-already =
       points-by (sectorReading (sectorAt k o) .verdict) refl
-      (subst (λ (r : Reading). names (slotCount list) s (r .verdict) ≡ true) (readings-at k (active-below-two (readingsOf o) k is-active) o noReading) does-name)
+      (subst (λ (r : Reading). names (slotCount list) s (r .verdict) ≡ true) (readings-at k (active-below-two (readingsOf o) k is-active) o noReading)
+      (naming-names (slotCount list) s (readingsOf o) k named))
 
 -- ---- the active record
 
