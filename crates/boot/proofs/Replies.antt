@@ -7,7 +7,7 @@ use mathlib.Core.List.{List}
 use native.Mathlib.Omega.{arith}
 use lib.ListN.{length, getD}
 use borrow.Author.Tests.{not-true, not-false}
-use Rattle.otadata.specs.Answers.{viewed}
+use Rattle.otadata.specs.Answers.{viewed, outcome}
 use Rattle.otadata.specs.declared.Slot.{Slot}
 use Rattle.otadata.specs.declared.Reading.{Reading}
 use Rattle.sectors.specs.declared.Holder.{Holder}
@@ -25,7 +25,7 @@ use Rattle.boot.specs.declared.Reply.{Reply}
 use Rattle.boot.specs.declared.Reply.the-variants.{Refused, Starts}
 use Rattle.boot_choice.specs.Acceptance.{accepted}
 use Rattle.boot_choice.specs.Choice.{choice}
-use Rattle.boot.specs.Boot.{view, outcome, marked, usedSector, awaiting, goodVerdict, anyGood, registerAfter, replyTo, fromMarks, byTests, boot, passedTests, Accepts}
+use Rattle.boot.specs.Boot.{view, marked, usedSector, awaiting, goodVerdict, anyGood, registerAfter, replyTo, fromMarks, byTests, boot, passedTests, Accepts}
 use Rattle.otadata.proofs.Booleans.{true-is-not-false}
 use Rattle.boot.proofs.ChoiceLaws.{Sound, nothing, through, by-factory, found, choice-sound}
 use Rattle.boot.proofs.TestLaws.{tests-decide, where-accepted}

@@ -4,7 +4,7 @@ use mathlib.Core.Path.{_≡_}
 use mathlib.Core.Bool.{Bool, true, false, cond, not, _&&_}
 use mathlib.Core.List.{List, [], _∷_, _++_}
 use lib.ListN.{length}
-use Rattle.otadata.specs.Answers.{Answer, Answered, answers}
+use Rattle.otadata.specs.Answers.{Answer, Answered, answers, Outcome as Answers·Outcome, outcome}
 use Rattle.otadata.specs.declared.State.the-variants.{New, Pending, Aborted}
 use Rattle.otadata.specs.declared.Verdict.{Verdict}
 use Rattle.otadata.specs.declared.Verdict.the-variants.{None as NotGood, Good}
@@ -44,14 +44,9 @@ view (Refused refusal) = record { number = refusal .number; values = 0 ∷ 0 ∷
 view (Starts start) =
     record { number = 0; values = appValues (start .app) ++ (sectorValue (start .through) ∷ start .register ∷ []) }
 
--- what boot replies, with its number and its values, and the otadata that it leaves
-pub record Outcome : Type 0 where
-  pub answer : Answer
-  pub reply : Reply
-  pub otadata : List ℕ
-
-abbrev pub outcome : Answered Reply → List ℕ → Outcome
-outcome a o = record { answer = a .answer; reply = a .reply; otadata = o }
+-- what a boot comes to: its reply, and the otadata that it leaves
+abbrev pub Outcome : Type 0
+Outcome = Answers·Outcome Reply
 
 -- a refusal names no app, no slot and no sector, and returns the register as given
 abbrev pub refused : Settings → ℕ → Answered Reply

@@ -1,9 +1,9 @@
 // The boot call: tests 1 to 3, then the four steps, and the reply.
 ghost use mathlib.Core.Path.{_≡_};
 ghost use lib.ListN.{length};
-ghost use Rattle.otadata.specs.Answers.{viewed};
+ghost use Rattle.otadata.specs.Answers.{viewed, outcome};
 ghost use Rattle.boot_choice.specs.declared.Choice.the-variants.{Found};
-ghost use Rattle.boot.specs.Boot.{view, outcome, marked, usedSector, goodVerdict, anyGood, registerAfter, replyTo, fromMarks, boot as Boot·boot};
+ghost use Rattle.boot.specs.Boot.{view, marked, usedSector, goodVerdict, anyGood, registerAfter, replyTo, fromMarks, boot as Boot·boot};
 use crate::NOTHING_BOOTABLE;
 use crate::Refusal;
 use crate::Reply;

@@ -23,13 +23,13 @@ use Rattle.app_image.proofs.Examples.{one-segment-accepted}
 use Rattle.app_image.proofs.Tail.{tail-ignored}
 use Rattle.boot_choice.specs.Acceptance.{otadataSize, acceptedNode, accepted}
 use Rattle.boot_choice.specs.Choice.{image, passing, Passes}
-use Rattle.boot_choice.specs.Example.{exampleList, zeros, exampleSlot, exampleFlash, exampleSettings, ExampleNode}
+use Rattle.boot_choice.specs.Example.{exampleList, filled, exampleSlot, exampleFlash, exampleSettings, ExampleNode}
 
 -- ---- the bytes
 
-zeros-length : (n : ℕ) → length (zeros n) ≡ n
-unfolding zeros
-zeros-length n = length-replicate n 0
+pub filled-length : (n byte : ℕ) → length (filled n byte) ≡ n
+unfolding filled
+filled-length n byte = length-replicate n byte
 
 image-length : length (oneSegment 0) ≡ 336
 unfolding oneSegment
@@ -38,15 +38,15 @@ image-length = refl
 slot-length : length exampleSlot ≡ 4096
 unfolding exampleSlot
 slot-length =
-    length-append (take 304 (oneSegment 0)) (zeros 3792)
-    ∙ simp (length-take-le 304 (oneSegment 0) (omega (arith, image-length)), zeros-length)
+    length-append (take 304 (oneSegment 0)) (filled 3792 0)
+    ∙ simp (length-take-le 304 (oneSegment 0) (omega (arith, image-length)), filled-length)
 
-front-length : length (exampleSlot ++ zeros 61440) ≡ 65536
-front-length = length-append exampleSlot (zeros 61440) ∙ simp (slot-length, zeros-length)
+front-length : length (exampleSlot ++ filled 61440 0) ≡ 65536
+front-length = length-append exampleSlot (filled 61440 0) ∙ simp (slot-length, filled-length)
 
 flash-length : length exampleFlash ≡ 69632
 unfolding exampleFlash
-flash-length = length-append (exampleSlot ++ zeros 61440) exampleSlot ∙ simp (front-length, slot-length)
+flash-length = length-append (exampleSlot ++ filled 61440 0) exampleSlot ∙ simp (front-length, slot-length)
 
 -- ---- the images
 
@@ -65,20 +65,20 @@ image-at i l = ap (λ (p : Part). p .content) (entry-parts exampleList flashPart
 
 image-0 : image exampleList exampleFlash (OtaSlot (record { 0 = 0 })) ≡ exampleSlot
 unfolding exampleFlash
-image-0 = image-at 0 (omega arith) ∙ rw append-assoc (take-at exampleSlot (zeros 61440 ++ exampleSlot) 4096 slot-length)
+image-0 = image-at 0 (omega arith) ∙ rw append-assoc (take-at exampleSlot (filled 61440 0 ++ exampleSlot) 4096 slot-length)
 
 image-1 : image exampleList exampleFlash (OtaSlot (record { 0 = 1 })) ≡ exampleSlot
 unfolding exampleFlash
 image-1 =
     image-at 1 (omega arith)
-    ∙ ap (take 4096) (drop-at (exampleSlot ++ zeros 61440) exampleSlot 65536 front-length)
+    ∙ ap (take 4096) (drop-at (exampleSlot ++ filled 61440 0) exampleSlot 65536 front-length)
     ∙ take-all 4096 exampleSlot (omega (arith, slot-length))
 
 -- ---- the apps
 
 slot-accepted : check exampleSlot 0 .reply ≡ AcceptedImage oneSegmentFacts
 unfolding exampleSlot OneSegmentAccepted TailIgnored
-slot-accepted = tail-ignored (oneSegment 0) (zeros 3792) 0 oneSegmentFacts one-segment-accepted
+slot-accepted = tail-ignored (oneSegment 0) (filled 3792 0) 0 oneSegmentFacts one-segment-accepted
 
 passes : (app : App) → image exampleList exampleFlash app ≡ exampleSlot → Passes exampleList exampleFlash exampleSettings app
 unfolding passing onesIn

@@ -15,17 +15,17 @@ use Rattle.boot_choice.specs.Choice.{Passes}
 abbrev pub exampleList : List ℕ
 exampleList = 16 ∷ 0 ∷ 4096 ∷ 17 ∷ 65536 ∷ 4096 ∷ []
 
--- n zero bytes
-unfoldable pub zeros : ℕ → List ℕ
-zeros n = replicate n 0
+-- n bytes of one value
+unfoldable pub filled : ℕ → ℕ → List ℕ
+filled n byte = replicate n byte
 
 -- the bytes of a slot: the 304 bytes of the image of one segment, then zeros
 unfoldable pub exampleSlot : List ℕ
-exampleSlot = take 304 (oneSegment 0) ++ zeros 3792
+exampleSlot = take 304 (oneSegment 0) ++ filled 3792 0
 
 -- slot 0, zeros up to 65,536, slot 1
 unfoldable pub exampleFlash : List ℕ
-exampleFlash = exampleSlot ++ zeros 61440 ++ exampleSlot
+exampleFlash = exampleSlot ++ filled 61440 0 ++ exampleSlot
 
 -- both protections are on; the eFuse version is 1, as that of the image
 abbrev pub exampleSettings : Settings

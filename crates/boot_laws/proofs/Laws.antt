@@ -8,6 +8,7 @@ use mathlib.Core.Logic.{_⊎_, inl, inr}
 use native.Mathlib.Omega.{arith}
 use lib.ListN.{length}
 use borrow.Author.Tests.{ltb-false}
+use Rattle.otadata.specs.Answers.{outcome}
 use Rattle.otadata.specs.declared.State.{State}
 use Rattle.otadata.specs.declared.State.the-variants.{New, Pending, Aborted}
 use Rattle.otadata.specs.declared.Reading.{Reading}
@@ -27,7 +28,7 @@ use Rattle.boot.specs.declared.Start.{Start}
 use Rattle.boot.specs.declared.Refusal.{Refusal}
 use Rattle.boot.specs.declared.Reply.the-variants.{Refused, Starts}
 use Rattle.boot_choice.specs.Choice.{image, passing, choice}
-use Rattle.boot.specs.Boot.{view, Outcome, outcome, marked, usedSector, awaiting, replyTo, fromMarks, byTests, refused, boot, passedTests, Accepts}
+use Rattle.boot.specs.Boot.{view, Outcome, marked, usedSector, awaiting, replyTo, fromMarks, byTests, refused, boot, passedTests, Accepts}
 use Rattle.boot_laws.specs.Laws.{UsableAt, ThroughUsable, NotBelow, StartsNotBelow, Never, NeverLaw, ViewLaw, AcceptanceLaw, RefusalKeeps, RefusalLaw, Change, OtherState, OnlyStates, StateLaw}
 use Rattle.boot.proofs.ChoiceLaws.{held-by, Sound, nothing, through, by-factory, found, choice-sound}
 use Rattle.boot_laws.proofs.Changes.{Restates, KeptOr, marks, no-marks, awaits, awaiting-size, no-awaiting}

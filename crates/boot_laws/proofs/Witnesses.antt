@@ -1,4 +1,4 @@
--- Both outcomes of demand 3 on the example node. The bytes of the cut sector come from the laws of cuts, the facts of the two records by evaluation.
+-- Both outcomes of demand 3 on the example node. The bytes of the cut sector come from the laws of cuts.
 -- Assumes nothing.
 use Prim.Native.Nat.{ℕ, zero, suc, _-_, _<_, _≤_}
 use mathlib.Core.Path.{_≡_, _∙_, refl, sym, ap}
@@ -6,7 +6,7 @@ use mathlib.Core.Bool.{true, false}
 use mathlib.Core.List.{List, [], _∷_, _++_}
 use mathlib.Core.Logic.{inl}
 use native.Mathlib.Omega.{arith}
-use lib.ListN.{length, getD, replicate, length-append, length-replicate, getD-replicate}
+use lib.ListN.{length, getD, replicate, length-append, getD-replicate}
 use lib.Seq.{take-at}
 use Rattle.otadata.specs.declared.Sequence.{Sequence}
 use Rattle.otadata.specs.declared.State.{State}
@@ -15,8 +15,8 @@ use Rattle.otadata.specs.declared.Verdict.{Verdict}
 use Rattle.otadata.specs.declared.Verdict.the-variants.{None, Good}
 use Rattle.otadata.specs.declared.Reading.{Reading}
 use Rattle.sectors.specs.declared.Holder.the-variants.{Sector}
-use Rattle.otadata.specs.Words.{bytes, bytesOf, shift, feeds, checkWord}
-use Rattle.otadata.specs.Records.{stateWord, stateOf, good, noReading, reading, inState, namesSlot, recordOf}
+use Rattle.otadata.specs.Words.{bytes, bytesOf, checkWord}
+use Rattle.otadata.specs.Records.{stateWord, good, noReading, reading, inState, namesSlot, recordOf}
 use Rattle.otadata.proofs.Booleans.{true-is-not-false}
 use Rattle.sectors.specs.Sectors.{blank, sectorReading, active, cut, sectorAt, readingsOf}
 use Rattle.sectors.specs.PowerCut.{allowed, after, History}
@@ -26,27 +26,24 @@ use Rattle.sectors.proofs.ReadingLaw.{after-size}
 use Rattle.sectors.proofs.SectorReads.{record-in, record-is, reading-of-reads}
 use Rattle.sectors.proofs.Stores.{cut-length}
 use Rattle.otadata.proofs.RecordFields.{record-length}
+use Rattle.otadata.proofs.RoundTrip.{read-good}
 use Rattle.sectors.proofs.Restating.{fields-read}
 use Rattle.sectors.proofs.Activity.{two}
 use Rattle.partitions.specs.PartitionList.{countBelow}
-use Rattle.boot_choice.specs.Example.{exampleList, exampleFlash, exampleSettings}
-use Rattle.boot_choice.proofs.Examples.{example-node}
+use Rattle.boot_choice.specs.Example.{filled, exampleList, exampleFlash, exampleSettings}
+use Rattle.boot_choice.proofs.Examples.{filled-length, example-node}
 use Rattle.boot.specs.Boot.{marked}
 use Rattle.boot.proofs.Examples.{accepts}
 use Rattle.boot_laws.specs.PowerCut.{Untouched, Prevails, Demand3}
-use Rattle.boot_laws.specs.Witnesses.{recordWith, sectorWith, erasedBytes, oldSequence, untouchedSector, newSequence, newRecord, blankSector}
+use Rattle.boot_laws.specs.Witnesses.{recordWith, sectorWith, oldSequence, untouchedSector, newSequence, newRecord, blankSector}
 use Rattle.boot_laws.specs.Witnesses.{refusedStore, earlierCalls, sectorBefore, exampleCalls, PremisesAt, otadataLeft, Witnesses}
 use Rattle.boot_laws.proofs.Changes.{unmarked}
 use Rattle.boot_laws.proofs.PowerCut.{otadata-size, own-sector, other-sector, demand-3}
 
 -- ---- lists of bytes
 
-erased-length : (n : ℕ) → length (erasedBytes n) ≡ n
-unfolding erasedBytes
-erased-length n = length-replicate n 255
-
-erased-byte : (n j : ℕ) → j < n → getD (erasedBytes n) j 0 ≡ 255
-unfolding erasedBytes
+erased-byte : (n j : ℕ) → j < n → getD (filled n 255) j 0 ≡ 255
+unfolding filled
 erased-byte n j l = getD-replicate n j 255 0 l
 
 filled-bytes : (n : ℕ) → bytes (replicate n 255)
@@ -54,8 +51,8 @@ filled-bytes zero i = omega arith
 filled-bytes (suc n) zero = omega arith
 filled-bytes (suc n) (suc i) = filled-bytes n i
 
-erased-bytes : (n : ℕ) → bytes (erasedBytes n)
-unfolding erasedBytes
+erased-bytes : (n : ℕ) → bytes (filled n 255)
+unfolding filled
 erased-bytes n = filled-bytes n
 
 joined-bytes : (s t : List ℕ) → bytes s → bytes t → bytes (s ++ t)
@@ -83,21 +80,9 @@ new-bytes : bytes newRecord
 unfolding recordWith
 new-bytes = record-bytes (newSequence .0) (replicate 20 255) (stateWord New) (filled-bytes 20)
 
-new-length : length newRecord ≡ 32
-unfolding recordWith recordOf
-new-length = refl
-
-new-good : good newRecord ≡ true
-unfolding recordWith recordOf good checkWord feeds shift
-new-good = refl
-
 new-first : getD newRecord 0 0 ≡ 255
 unfolding recordWith recordOf
 new-first = refl
-
-new-read : reading newRecord .verdict ≡ Good newSequence New
-unfolding recordWith recordOf reading good checkWord feeds shift stateOf
-new-read = refl
 
 -- ---- a sector with a record
 
@@ -105,16 +90,30 @@ record-with-length : (q : Sequence) (state : State) → length (recordWith q sta
 unfolding recordWith
 record-with-length q state = record-length (q .0) (replicate 20 255) (stateWord state) refl
 
+record-with-reads : (q : Sequence) (state : State) → 1 ≤ q .0 → q .0 ≤ 4294967294 → reading (recordWith q state) .verdict ≡ Good q state
+unfolding recordWith
+record-with-reads q state from-one to-last =
+    ap (λ (r : Reading). r .verdict) (fields-read (q .0) (replicate 20 255) state from-one to-last refl)
+
+new-length : length newRecord ≡ 32
+new-length = record-with-length newSequence New
+
+new-read : reading newRecord .verdict ≡ Good newSequence New
+new-read = record-with-reads newSequence New (omega arith) (omega arith)
+
+new-good : good newRecord ≡ true
+new-good = read-good newRecord newSequence New new-read
+
 pub sector-with-size : (q : Sequence) (state : State) → length (sectorWith q state) ≡ 4096
 unfolding sectorWith
-sector-with-size q state = length-append (recordWith q state) (erasedBytes 4064) ∙ simp (record-with-length q state, erased-length)
+sector-with-size q state = length-append (recordWith q state) (filled 4064 255) ∙ simp (record-with-length q state, filled-length)
 
 pub sector-with-reads : (q : Sequence) (state : State) → 1 ≤ q .0 → q .0 ≤ 4294967294 → sectorReading (sectorWith q state) .verdict ≡ Good q state
-unfolding sectorWith recordWith
+unfolding sectorWith
 sector-with-reads q state from-one to-last =
     ap (λ (r : List ℕ). reading r .verdict)
-    (record-in (sectorWith q state) (sector-with-size q state) ∙ take-at (recordWith q state) (erasedBytes 4064) 32 (record-with-length q state))
-    ∙ ap (λ (r : Reading). r .verdict) (fields-read (q .0) (replicate 20 255) state from-one to-last refl)
+    (record-in (sectorWith q state) (sector-with-size q state) ∙ take-at (recordWith q state) (filled 4064 255) 32 (record-with-length q state))
+    ∙ record-with-reads q state from-one to-last
 
 -- ---- the untouched sector
 
@@ -139,7 +138,7 @@ untouched =
 -- ---- the rewritten sector
 
 pub blank-size : length blankSector ≡ 4096
-blank-size = erased-length 4096
+blank-size = filled-length 4096 255
 
 starts-blank : blank blankSector
 starts-blank = is-blank blankSector blank-size (λ (j : ℕ) (l : j < 32). erased-byte 4096 j (omega arith))

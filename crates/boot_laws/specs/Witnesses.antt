@@ -7,21 +7,17 @@ use Rattle.otadata.specs.declared.State.{State}
 use Rattle.otadata.specs.declared.State.the-variants.{New, Valid}
 use Rattle.otadata.specs.Records.{stateWord, recordOf}
 use Rattle.sectors.specs.PowerCut.{Call, rewriteCut, storeRefused, after}
-use Rattle.boot_choice.specs.Example.{exampleList, exampleFlash, exampleSettings}
+use Rattle.boot_choice.specs.Example.{filled, exampleList, exampleFlash, exampleSettings}
 use Rattle.boot.specs.declared.Reply.{Reply}
 use Rattle.boot.specs.Boot.{boot}
 use Rattle.boot_laws.specs.PowerCut.{otadataOf, Prevails, StartsRecord, Premises}
-
--- n erased bytes
-unfoldable pub erasedBytes : ℕ → List ℕ
-erasedBytes n = replicate n 255
 
 -- a record whose label is 20 bytes 0xFF, and a sector with it, the bytes after it erased
 unfoldable pub recordWith : Sequence → State → List ℕ
 recordWith q state = recordOf (q .0) (replicate 20 255) (stateWord state)
 
 unfoldable pub sectorWith : Sequence → State → List ℕ
-sectorWith q state = recordWith q state ++ erasedBytes 4064
+sectorWith q state = recordWith q state ++ filled 4064 255
 
 -- the untouched sector: a valid record of sequence 2, which names slot 1
 abbrev pub oldSequence : Sequence
@@ -39,7 +35,7 @@ newRecord = recordWith newSequence New
 
 -- it starts blank
 abbrev pub blankSector : List ℕ
-blankSector = erasedBytes 4096
+blankSector = filled 4096 255
 
 -- a single store that is lent the sector without its first byte
 abbrev pub refusedStore : Call

@@ -18,12 +18,12 @@ use Rattle.update.specs.declared.Queried.{Queried}
 use Rattle.update.specs.declared.Queried.the-variants.{Refused as NotFound, Found}
 use Rattle.update.specs.declared.NextSlot.{NextSlot}
 use Rattle.update.specs.declared.NextSlot.the-variants.{Refused as NoNext, Next}
-use Rattle.otadata.specs.Answers.{viewed}
-use Rattle.update.specs.Replies.{view, queryView, nextView, outcome as Update·outcome}
+use Rattle.otadata.specs.Answers.{viewed, outcome as Update·outcome}
+use Rattle.update.specs.Replies.{view, queryView, nextView}
 use Rattle.update.specs.SetBoot.{setBoot}
 use Rattle.update.specs.Marks.{markValid, markInvalid}
 use Rattle.update.specs.Queries.{stateQuery, nextSlot}
-use Rattle.c_api.specs.Interface.{answer, toC, slotOf, runningApp, outcome, ofSetBoot, ofMarkValid, ofMarkInvalid}
+use Rattle.c_api.specs.Interface.{answer, toC, slotOf, runningApp, outcome, ofSetBoot, ofCall, ofMarkInvalid}
 
 -- ---- set-boot and the marks, with the settings that the arguments stand for
 
@@ -40,11 +40,11 @@ module _ (list flash o : List ℕ) (settings : Settings) (slot : Slot) (r : Repl
   module _ (is : Update·outcome (viewed view r) left ≡ markValid list flash o settings slot) where
     pub valid-refused : (refusal : Refusal) → r ≡ Refused refusal
         → outcome (answer (refusal .number) (refusal .register ∷ refusal .image .number ∷ refusal .image .place ∷ [])) left
-        ≡ ofMarkValid (markValid list flash o given slot)
+        ≡ ofCall (markValid list flash o given slot)
     valid-refused refusal e = simp (← same, ← is, e)
 
     pub valid-done : (completion : Completion) → r ≡ Done completion
-        → outcome (answer 0 (completion .register ∷ 0 ∷ 0 ∷ [])) left ≡ ofMarkValid (markValid list flash o given slot)
+        → outcome (answer 0 (completion .register ∷ 0 ∷ 0 ∷ [])) left ≡ ofCall (markValid list flash o given slot)
     valid-done completion e = simp (← same, ← is, e)
 
   module _ (is : Update·outcome (viewed view r) left ≡ markInvalid list flash o settings slot) where

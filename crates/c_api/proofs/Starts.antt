@@ -21,10 +21,10 @@ use Rattle.sectors.specs.Sectors.{readingsOf}
 use Rattle.boot.specs.declared.Start.{Start}
 use Rattle.boot.specs.declared.Reply.{Reply}
 use Rattle.boot.specs.declared.Reply.the-variants.{Refused, Starts}
-use Rattle.otadata.specs.Answers.{viewed}
-use Rattle.boot.specs.Boot.{view, appValues, sectorValue, marked, usedSector, replyTo, fromMarks, byTests, boot, Outcome as Boot·Outcome, outcome as Boot·outcome}
+use Rattle.otadata.specs.Answers.{viewed, outcome as Boot·outcome}
+use Rattle.boot.specs.Boot.{view, appValues, sectorValue, marked, usedSector, replyTo, fromMarks, byTests, boot, Outcome as Boot·Outcome}
 use Rattle.boot.proofs.Replies.{one-of-two}
-use Rattle.c_api.specs.Interface.{answer, outcome, ofBoot}
+use Rattle.c_api.specs.Interface.{answer, outcome, ofCall}
 
 -- ---- the sector of a start
 
@@ -55,12 +55,12 @@ module _ (list flash o : List ℕ) (settings : Settings) (r : Reply) (left : Lis
 
   module _ (given : Settings) (same : settings ≡ given) where
     pub boot-refused : (refusal : Refusal) → r ≡ Refused refusal
-        → outcome (answer (refusal .number) (0 ∷ 0 ∷ 2 ∷ refusal .register ∷ [])) left ≡ ofBoot (boot list flash o given)
+        → outcome (answer (refusal .number) (0 ∷ 0 ∷ 2 ∷ refusal .register ∷ [])) left ≡ ofCall (boot list flash o given)
     boot-refused refusal e = simp (← same, ← is, e)
 
     pub boot-starts : (start : Start) → r ≡ Starts start → (words : List ℕ)
         → words ≡ appValues (start .app) ++ (sectorValue (start .through) ∷ start .register ∷ [])
-        → outcome (answer 0 words) left ≡ ofBoot (boot list flash o given)
+        → outcome (answer 0 words) left ≡ ofCall (boot list flash o given)
     boot-starts start e words w = simp (← same, ← is, e, w)
 
 -- ---- the words of a start

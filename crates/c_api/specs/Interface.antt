@@ -4,7 +4,7 @@ use mathlib.Core.Bool.{Bool, cond, not}
 use mathlib.Core.List.{List, [], _∷_, _++_}
 use lib.Dec.{eqb}
 use lib.ListN.{length, replicate, drop}
-use Rattle.otadata.specs.Answers.{Answer}
+use Rattle.otadata.specs.Answers.{Answer, Outcome as Answers·Outcome}
 use Rattle.otadata.specs.declared.Made.{Made}
 use Rattle.otadata.specs.declared.Slot.{Slot}
 use Rattle.otadata.specs.declared.Verdict.{Verdict}
@@ -13,7 +13,6 @@ use Rattle.otadata.specs.Records.{stateWord}
 use Rattle.partitions.specs.declared.App.{App}
 use Rattle.partitions.specs.declared.App.the-variants.{Factory, OtaSlot}
 use Rattle.boot_choice.specs.declared.Settings.{Settings}
-use Rattle.boot.specs.Boot.{Outcome as Boot·Outcome}
 use Rattle.update.specs.Replies.{Outcome as Update·Outcome}
 
 -- ---- an answer
@@ -65,13 +64,9 @@ pub record Outcome : Type 0 where
 abbrev pub outcome : Answer → List ℕ → Outcome
 outcome a o = record { answer = a; otadata = o }
 
--- that of boot: its reply has a value for each place of `out`
-abbrev pub ofBoot : Boot·Outcome → Outcome
-ofBoot b = outcome (b .answer) (b .otadata)
-
--- that of mark-valid: the same
-abbrev pub ofMarkValid : Update·Outcome → Outcome
-ofMarkValid u = outcome (u .answer) (u .otadata)
+-- that of boot and of mark-valid: the reply has a value for each place of `out`
+abbrev pub ofCall : {Reply : Type 0} → Answers·Outcome Reply → Outcome
+ofCall c = outcome (c .answer) (c .otadata)
 
 -- that of set-boot: without the register, the first value of its reply
 abbrev pub ofSetBoot : Update·Outcome → Outcome

@@ -4,7 +4,7 @@ ghost use Prim.Native.Nat.{ℕ, _<_};
 ghost use mathlib.Core.List.{[], _∷_, _++_};
 ghost use Rattle.sectors.specs.declared.Holder.the-variants.{Sector};
 ghost use Rattle.boot.specs.Boot.{appValues, sectorValue, boot as Boot·boot};
-ghost use Rattle.c_api.specs.Interface.{answer, settingsOf, outcome, ofBoot};
+ghost use Rattle.c_api.specs.Interface.{answer, settingsOf, outcome, ofCall};
 use boot::Reply;
 use boot::Start;
 use boot::boot;
@@ -24,7 +24,7 @@ pub extern "C" fn ota_boot(
     anti: u8,
     out: &mut [u32; 4],
 ) -> u32
-    ensures { λ r. ⌜ outcome (answer r (now (out .exit))) (now (otadata .exit)) ≡ ofBoot (Boot·boot (now (list .entry)) (now (flash .entry)) (now (otadata .entry)) (settingsOf chip efuse rollback anti)) ⌝ }
+    ensures { λ r. ⌜ outcome (answer r (now (out .exit))) (now (otadata .exit)) ≡ ofCall (Boot·boot (now (list .entry)) (now (flash .entry)) (now (otadata .entry)) (settingsOf chip efuse rollback anti)) ⌝ }
 {
     let reply = boot(
         list,

@@ -5,7 +5,7 @@ ghost use lib.ListN.{length};
 ghost use Rattle.update.specs.SetBoot.{setBoot};
 ghost use Rattle.update.specs.Marks.{markValid, markInvalid};
 ghost use Rattle.update.specs.Queries.{stateQuery, nextSlot};
-ghost use Rattle.c_api.specs.Interface.{answer, toC, settingsOf, slotOf, runningApp, outcome, ofSetBoot, ofMarkValid, ofMarkInvalid};
+ghost use Rattle.c_api.specs.Interface.{answer, toC, settingsOf, slotOf, runningApp, outcome, ofSetBoot, ofCall, ofMarkInvalid};
 use crate::node::settings_of;
 use otadata::Slot;
 use partitions::App;
@@ -69,7 +69,7 @@ pub extern "C" fn ota_mark_valid(
     slot: u32,
     out: &mut [u64; 3],
 ) -> u32
-    ensures { λ r. ⌜ outcome (answer r (now (out .exit))) (now (otadata .exit)) ≡ ofMarkValid (markValid (now (list .entry)) (now (flash .entry)) (now (otadata .entry)) (settingsOf chip efuse rollback anti) (slotOf slot)) ⌝ }
+    ensures { λ r. ⌜ outcome (answer r (now (out .exit))) (now (otadata .exit)) ≡ ofCall (markValid (now (list .entry)) (now (flash .entry)) (now (otadata .entry)) (settingsOf chip efuse rollback anti) (slotOf slot)) ⌝ }
 {
     let reply = mark_valid(
         list,

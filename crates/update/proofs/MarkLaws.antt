@@ -6,7 +6,7 @@ use mathlib.Core.Bool.{Bool, true, false, not}
 use mathlib.Core.List.{List}
 use lib.ListN.{length, getD}
 use borrow.Author.Tests.{not-true, not-false}
-use Rattle.otadata.specs.Answers.{viewed}
+use Rattle.otadata.specs.Answers.{viewed, outcome}
 use Rattle.otadata.specs.declared.Slot.{Slot}
 use Rattle.otadata.specs.declared.State.the-variants.{Valid, Invalid}
 use Rattle.otadata.specs.declared.Reading.{Reading}
@@ -30,7 +30,7 @@ use Rattle.update.specs.declared.Reply.{Reply}
 use Rattle.update.specs.declared.Reply.the-variants.{Refused, Done}
 use Rattle.update.specs.declared.Examined.{Examined}
 use Rattle.update.specs.declared.Examined.the-variants.{Fit}
-use Rattle.update.specs.Replies.{view, refusal, outcome}
+use Rattle.update.specs.Replies.{view, refusal}
 use Rattle.update.specs.Tests.{acceptedSlot, examined, afterImage}
 use Rattle.update.specs.Marks.{confirmed, registerRaised, confirms, validNamed, choosesNothing, invalidNamed}
 use Rattle.update.specs.Fallback.{fallsBack}

@@ -19,11 +19,11 @@ use Rattle.slot_records.specs.declared.Placement.the-variants.{Nowhere, At}
 use Rattle.slot_records.specs.Naming.{activeNaming}
 use Rattle.slot_records.specs.Placing.{placement}
 use Rattle.update.specs.declared.Refusal.{Refusal}
-use Rattle.otadata.specs.Answers.{Answered, viewed}
+use Rattle.otadata.specs.Answers.{Answered, viewed, outcome}
 use Rattle.otadata.specs.declared.Slot.{Slot}
 use Rattle.update.specs.declared.Reply.{Reply}
 use Rattle.update.specs.declared.Reply.the-variants.{Refused}
-use Rattle.update.specs.Replies.{view, refusal, done, outcome}
+use Rattle.update.specs.Replies.{view, refusal, done}
 use Rattle.update.specs.Tests.{unconfirmed}
 use Rattle.update.specs.SetBoot.{newState, newRecord, placedAt, pointed}
 

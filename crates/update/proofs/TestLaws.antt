@@ -8,7 +8,7 @@ use native.Mathlib.Omega.{arith}
 use lib.Dec.{ltb}
 use borrow.Author.Tests.{lt-ltb, le-ltb, ltb-true, not-true, not-false}
 use denote.Ref.{RefT, now}
-use Rattle.otadata.specs.Answers.{viewed}
+use Rattle.otadata.specs.Answers.{viewed, outcome}
 use Rattle.otadata.specs.declared.Slot.{Slot}
 use Rattle.otadata.specs.declared.Reading.{Reading}
 use Rattle.sectors.specs.declared.Holder.{Holder}
@@ -35,7 +35,7 @@ use Rattle.update.specs.declared.Reply.{Reply}
 use Rattle.update.specs.declared.Reply.the-variants.{Refused}
 use Rattle.update.specs.declared.Examined.{Examined}
 use Rattle.update.specs.declared.Examined.the-variants.{Unfit, Fit}
-use Rattle.update.specs.Replies.{view, noImage, refusalOf, refusal, imageRefusal, Outcome, outcome}
+use Rattle.update.specs.Replies.{view, noImage, refusalOf, refusal, imageRefusal, Outcome}
 use Rattle.update.specs.Tests.{slotTest, runningTest, acceptedSlot, examined, unconfirmed, afterTests, afterImage, afterNaming}
 
 pub no-image-refused : (settings : Settings) (number : ℕ) (i : ImageRefusal) → i ≡ noImage

@@ -4,6 +4,7 @@ use mathlib.Core.Bool.{Bool, false, cond}
 use mathlib.Core.List.{List}
 use lib.Dec.{eqb}
 use lib.ListN.{length}
+use Rattle.otadata.specs.Answers.{outcome}
 use Rattle.otadata.specs.declared.Slot.{Slot}
 use Rattle.otadata.specs.declared.State.the-variants.{Valid, Invalid}
 use Rattle.sectors.specs.Sectors.{sectorReading, sectorAt, readingsOf, withState}
@@ -15,7 +16,7 @@ use Rattle.boot.specs.declared.Reply.{Reply as BootReply}
 use Rattle.boot.specs.declared.Reply.the-variants.{Refused as BootRefused, Starts}
 use Rattle.boot.specs.Boot.{boot}
 use Rattle.slot_records.specs.Naming.{activeNaming}
-use Rattle.update.specs.Replies.{refused, done, Outcome, outcome}
+use Rattle.update.specs.Replies.{refused, done, Outcome}
 use Rattle.update.specs.Tests.{acceptedSlot, examined, afterTests, afterImage, afterNaming}
 use Rattle.otadata.specs.Records.{inState}
 

@@ -1,7 +1,7 @@
 -- What the calls reply, in document 01's numbers and values.
 use Prim.Native.Nat.{ℕ}
-use mathlib.Core.List.{List, [], _∷_}
-use Rattle.otadata.specs.Answers.{Answer, Answered, answers}
+use mathlib.Core.List.{[], _∷_}
+use Rattle.otadata.specs.Answers.{Answer, Answered, answers, Outcome as Answers·Outcome}
 use Rattle.otadata.specs.declared.Slot.{Slot}
 use Rattle.otadata.specs.declared.State.{State}
 use Rattle.otadata.specs.Records.{stateWord}
@@ -63,14 +63,9 @@ refused settings number = refusedBy (refusal settings number)
 abbrev pub done : ℕ → Answered Reply
 done register = answers 0 (register ∷ 0 ∷ 0 ∷ []) (Done (record { register = register }))
 
--- what a call replies, with its number and its values, and the otadata that it leaves
-pub record Outcome : Type 0 where
-  pub answer : Answer
-  pub reply : Reply
-  pub otadata : List ℕ
-
-abbrev pub outcome : Answered Reply → List ℕ → Outcome
-outcome a o = record { answer = a .answer; reply = a .reply; otadata = o }
+-- what a call comes to: its reply, and the otadata that it leaves
+abbrev pub Outcome : Type 0
+Outcome = Answers·Outcome Reply
 
 -- ---- the replies of the queries
 

@@ -3,6 +3,7 @@ use Prim.Native.Nat.{ℕ}
 use mathlib.Core.Bool.{cond}
 use mathlib.Core.List.{List}
 use lib.ListN.{length, replicate}
+use Rattle.otadata.specs.Answers.{outcome}
 use Rattle.otadata.specs.declared.Slot.{Slot}
 use Rattle.otadata.specs.declared.Sequence.{Sequence}
 use Rattle.otadata.specs.declared.State.{State}
@@ -17,7 +18,7 @@ use Rattle.slot_records.specs.declared.Placement.{Placement}
 use Rattle.slot_records.specs.declared.Placement.the-variants.{Nowhere, At}
 use Rattle.slot_records.specs.Naming.{activeNaming}
 use Rattle.slot_records.specs.Placing.{placement}
-use Rattle.update.specs.Replies.{refused, done, Outcome, outcome}
+use Rattle.update.specs.Replies.{refused, done, Outcome}
 use Rattle.update.specs.Tests.{acceptedSlot, examined, unconfirmed, afterTests, afterImage}
 
 -- ---- the new record

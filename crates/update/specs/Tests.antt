@@ -3,6 +3,7 @@ use Prim.Native.Nat.{ℕ}
 use mathlib.Core.Bool.{Bool, cond, not, _&&_}
 use mathlib.Core.List.{List}
 use lib.Dec.{ltb}
+use Rattle.otadata.specs.Answers.{outcome}
 use Rattle.otadata.specs.declared.Slot.{Slot}
 use Rattle.otadata.specs.declared.Reading.{Reading}
 use Rattle.sectors.specs.declared.Holder.{Holder}
@@ -22,7 +23,7 @@ use Rattle.boot_choice.specs.Choice.{image, tooOld}
 use Rattle.slot_records.specs.Naming.{activePending}
 use Rattle.update.specs.declared.Examined.{Examined}
 use Rattle.update.specs.declared.Examined.the-variants.{Unfit, Fit}
-use Rattle.update.specs.Replies.{refusal, imageRefusal, refusedBy, refused, Outcome, outcome}
+use Rattle.update.specs.Replies.{refusal, imageRefusal, refusedBy, refused, Outcome}
 
 -- 4: the slot is not below n
 abbrev pub notBelow : Slot → Listing → Bool

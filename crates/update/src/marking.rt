@@ -1,11 +1,11 @@
 // Mark-valid and mark-invalid, of the running app.
 ghost use mathlib.Core.Path.{_≡_};
-ghost use Rattle.otadata.specs.Answers.{viewed};
+ghost use Rattle.otadata.specs.Answers.{viewed, outcome};
 ghost use Prim.Native.Nat.{_<_};
 ghost use lib.ListN.{length};
 ghost use Rattle.sectors.specs.Sectors.{sectorReading, sectorAt};
 ghost use Rattle.boot.specs.Boot.{Accepts};
-ghost use Rattle.update.specs.Replies.{view, outcome};
+ghost use Rattle.update.specs.Replies.{view};
 ghost use Rattle.update.specs.Tests.{afterImage};
 ghost use Rattle.update.specs.Marks.{confirmed, registerRaised, confirms, validNamed, markValid, invalidNamed, markInvalid};
 ghost use Rattle.update.specs.Fallback.{readingIn, abortedReading, abortedReadings, fallsBack};

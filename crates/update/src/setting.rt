@@ -1,7 +1,7 @@
 // Set-boot: the record that names a slot goes into the sector that is not active.
 ghost use mathlib.Core.Path.{_≡_};
-ghost use Rattle.otadata.specs.Answers.{viewed};
-ghost use Rattle.update.specs.Replies.{view, done, outcome};
+ghost use Rattle.otadata.specs.Answers.{viewed, outcome};
+ghost use Rattle.update.specs.Replies.{view, done};
 ghost use Rattle.update.specs.SetBoot.{newRecord, newState, placedAt, pointed, setListed, setBoot};
 use crate::Completion;
 use crate::Examined;

@@ -8,6 +8,7 @@ use native.Mathlib.Omega.{arith}
 use lib.Dec.{eqb}
 use lib.ListN.{length, getD}
 use borrow.Author.Tests.{eq-eqb}
+use Rattle.otadata.specs.Answers.{outcome}
 use Rattle.otadata.specs.declared.Slot.{Slot}
 use Rattle.otadata.specs.declared.Sequence.{Sequence}
 use Rattle.otadata.specs.declared.State.{State}
@@ -46,7 +47,7 @@ use Rattle.update.specs.declared.Completion.{Completion}
 use Rattle.update.specs.declared.Reply.the-variants.{Done}
 use Rattle.update.specs.declared.Examined.{Examined}
 use Rattle.update.specs.declared.Examined.the-variants.{Unfit, Fit}
-use Rattle.update.specs.Replies.{refusedBy, refusal, imageRefusal, done, Outcome, outcome}
+use Rattle.update.specs.Replies.{refusedBy, refusal, imageRefusal, done, Outcome}
 use Rattle.update.specs.Tests.{acceptedSlot, held, examined, unconfirmed, afterTests, afterImage, afterNaming}
 use Rattle.update.specs.SetBoot.{placedAt, unlessNamed, pointed, setBoot}
 use Rattle.update.specs.Marks.{markValid, choosesNothing, markInvalid}
