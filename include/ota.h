@@ -45,6 +45,7 @@ uint32_t ota_rewrite(uint8_t *sector, size_t sector_len, const uint8_t *record, 
 /* ---- the partition list and app images */
 
 /* Tests a partition list, triples of subtype, offset and size, for a flash of that length.
+ * It has 2 to 16 slots, and factory at most once: 51 words at most.
  * Returns 0 with out = {number of slots, 1 if factory is listed}, or 1. */
 uint32_t ota_check_list(const uint32_t *list, size_t words, size_t flash_len, uint32_t out[2]);
 

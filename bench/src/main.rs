@@ -2,11 +2,12 @@
 
 use ota_tests::ffi::{self, Node};
 use ota_tests::generate::{plain_image, two_sectors};
+use ota_tests::partition::FLASH_MAX;
 use ota_tests::record::{check_word, make, State};
 use ota_tests::rng::Rng;
 use ota_tests::sector::SECTOR_SIZE;
 use ota_tests::settings::Settings;
-use ota_tests::{boot, image, sector};
+use ota_tests::{boot, image, partition, sector};
 use std::hint::black_box;
 use std::time::Instant;
 
@@ -27,7 +28,10 @@ fn main() {
     check_image("image check, 64 KiB", 64 << 10);
     check_image("image check, 1.5 MiB", 3 << 19);
     whole_rewrite();
-    boot_eight_slots();
+    check_list();
+    boot_slots("eight slots of 64 KiB", 8, 64 << 10);
+    boot_slots("sixteen slots of 64 KiB", 16, 64 << 10);
+    boot_slots("sixteen slots of 960 KiB", 16, 960 << 10);
 }
 
 /// Times both sides and prints a row of the table.
@@ -130,29 +134,53 @@ fn whole_rewrite() {
     assert!(sectors[0] == sectors[1] && sectors[1] == sectors[2]);
 }
 
-/// Eight slots, each with an image of 64 KiB.
-fn boot_eight_slots() {
-    const SLOT: usize = 64 << 10;
-    let list: Vec<u32> = (0..8).flat_map(|slot| [16 + slot, slot * SLOT as u32, SLOT as u32]).collect();
-    let flash = random_image(SLOT).repeat(8);
+/// The list of so many slots, one after the other.
+fn slots(n: u32, size: usize) -> Vec<u32> {
+    (0..n).flat_map(|slot| [16 + slot, slot * size as u32, size as u32]).collect()
+}
+
+fn check_list() {
+    let list = slots(16, 64 << 10);
+    let library = |list: &[u32]| {
+        let mut out = [0; 2];
+        (ffi::check_list(list, FLASH_MAX, &mut out), out[0])
+    };
+    let model = |list: &[u32]| partition::check(list, FLASH_MAX).map(|accepted| accepted.n());
+    assert_eq!((library(&list), model(&list)), ((0, 16), Ok(16)));
+    row(
+        "list check, sixteen slots",
+        || {
+            black_box(library(black_box(&list)));
+        },
+        || {
+            black_box(model(black_box(&list))).unwrap();
+        },
+    );
+}
+
+/// So many slots, each with an image of that size.
+fn boot_slots(name: &str, n: u32, size: usize) {
+    let last = n - 1;
+    let list = slots(n, size);
+    let flash = random_image(size).repeat(n as usize);
     let record = |sequence| make(sequence, &[0xFF; 20], State::Valid.word()).ok();
     time_boot(
-        "boot, eight slots, the active record's app passes",
+        &format!("boot, {name}, the active record's app passes"),
         &list,
         &flash,
-        two_sectors(record(7), record(8)),
-        [2, 7, 1],
+        two_sectors(record(n - 1), record(n)),
+        [2, last, 1],
     );
 
-    // The checksum of the first seven is wrong, so that all eight images are read to their end.
+    // The checksum of all but the last is wrong, so that all images are read to their end.
     let mut damaged = flash;
-    (0..7).for_each(|slot| damaged[slot * SLOT + SLOT - 33] ^= 1);
+    (1..n as usize).for_each(|slot| damaged[slot * size - 33] ^= 1);
     time_boot(
-        "boot, eight slots, no record, only the last slot's app passes",
+        &format!("boot, {name}, no record, only the last slot's app passes"),
         &list,
         &damaged,
         two_sectors(None, None),
-        [2, 7, 2],
+        [2, last, 2],
     );
 }
 

@@ -2,7 +2,7 @@
 
 use crate::ffi;
 use crate::image::*;
-use crate::partition::FLASH_MAX;
+use crate::partition::{FLASH_MAX, SLOTS_MAX, SLOTS_MIN};
 use crate::record::{raw_bytes, State, HIGHEST_SEQUENCE, LABEL_SIZE, RECORD_SIZE};
 use crate::rng::Rng;
 use crate::sector::{self, OTADATA_SIZE, SECTOR_SIZE};
@@ -78,7 +78,7 @@ fn build_image(chip_id: u16, entry: u32, segments: &[Vec<u8>], digest: bool) -> 
 
 pub fn sequence(rng: &mut Rng) -> u32 {
     match rng.below(20) {
-        0..=7 => 1 + rng.below(20) as u32,
+        0..=7 => 1 + rng.below(40) as u32,
         8..=12 => HIGHEST_SEQUENCE - rng.below(16) as u32,
         13 => rng.pick(&[0, 0xFFFF_FFFF]),
         14..=15 => 0x8000_0000 - 8 + rng.below(16) as u32,
@@ -377,7 +377,7 @@ pub enum Rule {
     SlotMissing,
     NoSlot,
     OneSlot,
-    NineSlots,
+    SeventeenSlots,
     OtherSubtype,
     Offset,
     SizeZero,
@@ -396,7 +396,7 @@ impl Rule {
         Rule::SlotMissing,
         Rule::NoSlot,
         Rule::OneSlot,
-        Rule::NineSlots,
+        Rule::SeventeenSlots,
         Rule::OtherSubtype,
         Rule::Offset,
         Rule::SizeZero,
@@ -417,9 +417,9 @@ pub struct List {
     pub broken: Option<Rule>,
 }
 
-/// A list that keeps the rules, its entries in any order in the list and in the flash.
-pub fn good_list(rng: &mut Rng, factory: bool) -> List {
-    let n = 2 + rng.below(7);
+/// A list of 2 to 17 slots, its entries in any order in the list and in the flash, that keeps all other rules.
+fn any_list(rng: &mut Rng, factory: bool) -> List {
+    let n = SLOTS_MIN + rng.below(SLOTS_MAX + 2 - SLOTS_MIN);
     let mut subtypes: Vec<u32> = (16..16 + n as u32).collect();
     if factory {
         subtypes.push(0);
@@ -447,18 +447,22 @@ pub fn good_list(rng: &mut Rng, factory: bool) -> List {
         flash_len = FLASH_MAX;
     }
     rng.shuffle(&mut entries);
-    List { words: entries.concat(), flash_len, n: n as u32, broken: None }
+    let broken = (n > SLOTS_MAX).then_some(Rule::SeventeenSlots);
+    List { words: entries.concat(), flash_len, n: n as u32, broken }
 }
 
-/// The list with one rule broken, the others kept where that can be.
-pub fn break_list(rng: &mut Rng, list: List, rule: Rule) -> List {
-    let List { words, mut flash_len, n, .. } = list;
+/// The list with one rule broken, the others kept where that can be. One of seventeen slots stays as it is.
+fn break_list(rng: &mut Rng, list: List, rule: Rule) -> List {
+    if list.broken.is_some() {
+        return list;
+    }
+    let List { words, mut flash_len, mut n, .. } = list;
     let mut entries: Vec<[u32; 3]> = words.chunks(3).map(|entry| entry.try_into().unwrap()).collect();
     if flash_len > 8 << 20 {
         // Make room: the entry at the end of the longest flash goes.
-        flash_len = 4 << 20;
+        flash_len = 8 << 20;
         let last = entries.iter_mut().max_by_key(|entry| entry[1]).unwrap();
-        *last = [last[0], (3 << 20) as u32, PAGE as u32];
+        *last = [last[0], (7 << 20) as u32, PAGE as u32];
     }
     let add = |entries: &mut Vec<[u32; 3]>, flash_len: &mut usize, subtype: u32| {
         let offset = flash_len.next_multiple_of(BLOCK);
@@ -477,10 +481,10 @@ pub fn break_list(rng: &mut Rng, list: List, rule: Rule) -> List {
         Rule::SlotTwice => add(&mut entries, &mut flash_len, 16 + rng.below(n as usize) as u32),
         Rule::SlotMissing => {
             let highest = 16 + n - 1;
-            if n < 8 {
+            if rng.chance(50) {
                 entries.iter_mut().filter(|entry| entry[0] == highest).for_each(|entry| entry[0] += 1);
             } else {
-                let gone = 16 + rng.below(7) as u32;
+                let gone = 16 + rng.below(n as usize - 1) as u32;
                 entries.retain(|entry| entry[0] != gone);
             }
         }
@@ -489,9 +493,12 @@ pub fn break_list(rng: &mut Rng, list: List, rule: Rule) -> List {
             let only = rng.pick(&[16, 17]);
             entries.retain(|entry| entry[0] == 0 || entry[0] == only);
         }
-        Rule::NineSlots => (16 + n..25).for_each(|subtype| add(&mut entries, &mut flash_len, subtype)),
+        Rule::SeventeenSlots => {
+            (n..17).for_each(|slot| add(&mut entries, &mut flash_len, 16 + slot));
+            n = 17;
+        }
         Rule::OtherSubtype => {
-            let subtype = rng.pick(&[1, 2, 15, 24, 32, 0x100, 0x110, 0x1_0000, 0x1_0010, 0x8000_0010, 0xFFFF_FFFF]);
+            let subtype = rng.pick(&[1, 2, 15, 33, 34, 0x100, 0x110, 0x1_0000, 0x1_0010, 0x8000_0010, 0xFFFF_FFFF]);
             add(&mut entries, &mut flash_len, subtype);
         }
         Rule::Offset => {
@@ -539,23 +546,25 @@ pub fn break_list(rng: &mut Rng, list: List, rule: Rule) -> List {
 /// A list for the list's check alone; its flash needn't exist.
 pub fn lone_list(rng: &mut Rng) -> List {
     let factory = rng.chance(50);
-    let mut list = good_list(rng, factory);
+    let mut list = any_list(rng, factory);
     match rng.below(10) {
         0..=2 => {}
         3..=7 => {
             let rule = rng.pick(&Rule::ALL);
             list = break_list(rng, list, rule);
-            if rule == Rule::FlashTooLong && rng.chance(30) {
+            if list.broken == Some(Rule::FlashTooLong) && rng.chance(30) {
                 list.flash_len = rng.pick(&[1 << 31, 1 << 32, (1 << 32) + (1 << 20), usize::MAX]);
             }
         }
         8 => {
-            // One bit of one word.
+            // One bit of one word; it may break no rule.
+            list.broken = None;
             let place = rng.below(list.words.len());
             list.words[place] ^= 1 << rng.below(32);
         }
         _ => {
             // The words of an arbitrary list, from the ones that matter.
+            list.broken = None;
             list.words = (0..3 * rng.below(6))
                 .map(|_| rng.pick(&[0, 0x10, 0x11, 0x12, 0x1000, 0x2000, 0x1_0000, 0x2_0000, 0x3_0000, 0x1001]))
                 .collect();
@@ -585,7 +594,7 @@ pub struct NodeCase {
 pub fn node(rng: &mut Rng) -> NodeCase {
     let factory = rng.chance(40);
     let settings = settings(rng, factory);
-    let mut list = good_list(rng, factory);
+    let mut list = any_list(rng, factory);
     let n = list.n;
 
     let health = rng.pick(&[0, 20, 50, 70, 90, 100]);
@@ -650,6 +659,6 @@ fn any_slot(rng: &mut Rng, n: u32) -> u32 {
     if rng.chance(85) {
         rng.below(n as usize) as u32
     } else {
-        rng.pick(&[n, n + 1, 7, 8, 16, 255, 256, 0x1_0000, 0x8000_0000, 0xFFFF_FFFE, 0xFFFF_FFFF])
+        rng.pick(&[n, n + 1, 16, 17, 255, 256, 0x1_0000, 0x8000_0000, 0xFFFF_FFFE, 0xFFFF_FFFF])
     }
 }

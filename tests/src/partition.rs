@@ -5,7 +5,7 @@ use std::ops::Range;
 
 pub const FLASH_MAX: usize = 16_777_216;
 pub const SLOTS_MIN: usize = 2;
-pub const SLOTS_MAX: usize = 8;
+pub const SLOTS_MAX: usize = 16;
 const FACTORY: u32 = 0;
 const SLOT_0: u32 = 16;
 const OFFSET_UNIT: u64 = 65_536;
@@ -64,7 +64,8 @@ pub fn check(list: &[u32], flash_len: usize) -> Result<Partitions, Refusal> {
 mod tests {
     use super::*;
 
-    const FLASH: usize = 0x10_0000;
+    /// Room for eighteen entries, each at a multiple of 65,536.
+    const FLASH: usize = 0x12_0000;
 
     #[test]
     fn a_good_list() {
@@ -78,14 +79,32 @@ mod tests {
         assert_eq!(check(&list, FLASH_MAX + 1), Err(Refusal::List));
     }
 
+    /// Entries of these subtypes, one after the other.
+    fn entries(subtypes: &[u32]) -> Vec<u32> {
+        subtypes.iter().zip(0..).flat_map(|(subtype, block)| [*subtype, block * 0x1_0000, 0x1000]).collect()
+    }
+
+    #[test]
+    fn each_number_of_slots() {
+        for n in 2..=SLOTS_MAX as u32 {
+            let slots: Vec<u32> = (16..16 + n).rev().collect();
+            let with = |more: &[u32]| check(&entries(&[&slots[..], more].concat()), FLASH).map(|accepted| accepted.n());
+            assert_eq!(with(&[]), Ok(n));
+            assert_eq!(with(&[0]), Ok(n));
+            // The first or the last slot twice, factory twice, a slot left out.
+            for more in [&[16][..], &[15 + n], &[0, 0], &[17 + n]] {
+                assert_eq!(with(more), Err(Refusal::List), "{n} slots and {more:?}");
+            }
+        }
+        let seventeen: Vec<u32> = (16..33).collect();
+        assert_eq!(check(&entries(&seventeen), FLASH), Err(Refusal::List));
+        assert_eq!(check(&entries(&[&[0], &seventeen[..]].concat()), FLASH), Err(Refusal::List));
+        assert_eq!(check(&entries(&seventeen[1..]), FLASH), Err(Refusal::List));
+    }
+
     #[test]
     fn each_rule_broken() {
-        let entry = |subtype: u32, page: u32| [subtype, page * 0x1_0000, 0x1000];
-        let slots = |subtypes: &[u32]| {
-            subtypes.iter().zip(0..).flat_map(|(subtype, page)| entry(*subtype, page)).collect::<Vec<u32>>()
-        };
-        assert!(check(&slots(&[16, 17]), FLASH).is_ok());
-        assert!(check(&slots(&[23, 16, 0, 17, 22, 18, 21, 19, 20]), FLASH).is_ok());
+        assert!(check(&entries(&[16, 17]), FLASH).is_ok());
         for subtypes in [
             &[][..],
             &[0],
@@ -97,11 +116,10 @@ mod tests {
             &[16, 17, 1],
             &[16, 17, 15],
             &[16, 17, 32],
-            &[16, 17, 18, 19, 20, 21, 22, 23, 24],
         ] {
-            assert_eq!(check(&slots(subtypes), FLASH), Err(Refusal::List), "{subtypes:?}");
+            assert_eq!(check(&entries(subtypes), FLASH), Err(Refusal::List), "{subtypes:?}");
         }
-        let good = slots(&[16, 17]);
+        let good = entries(&[16, 17]);
         assert_eq!(check(&good[..5], FLASH), Err(Refusal::List));
         for (place, word) in [(1, 0x1000), (1, 0x1_0000), (2, 0), (2, 0x1001), (2, 0x1_1000), (4, 0xFFFF_0000)] {
             let mut list = good.clone();

@@ -8,12 +8,13 @@ import random
 import struct
 import sys
 
-from cases import LAST, SECTOR, SIZE, total
+from cases import LAST, SECTOR, Cases, total
 from layers import FACTORY, add_list, check_image, checksum, listing, raised, slots_in, version
 from records import (ABORTED, BLANK, FF, INVALID, LABEL, NEW, PENDING, STATES, UNDEFINED, VALID, add_stores, named, put_store, reading,
                      record, shown, usable)
 
 UNIT = 65536
+SIZE = Cases.size
 
 Settings = collections.namedtuple("Settings", "rollback anti efuse chip")
 Reply = collections.namedtuple("Reply", "number app sector register")
@@ -266,7 +267,7 @@ def image(secure=3, chip=CHIP, size=256, flag=0, puts=()):
     return bytes(made)
 
 
-GOOD = ["a", "b", "c", "d", "e", "f", "g", "h", "i"]
+GOOD = list("abcdefghijklmnopq")  # sixteen slots and factory
 IMAGES = {name: image() for name in GOOD}
 IMAGES |= {f"v{secure}": image(secure) for secure in (0, 1, 2, 4, 5, 32)}
 IMAGES |= {
@@ -278,6 +279,7 @@ IMAGES |= {
 }
 BAD = {
     "magic": (21, image(puts=[(0, b"\xE8")])),
+    "no magic": (21, image(puts=[(0, b"\x00")])),
     "no segment": (22, image(puts=[(1, b"\x00")])),
     "segments": (22, image(puts=[(1, b"\x11")])),
     "chip": (23, image(chip=CHIP + 1)),
@@ -288,11 +290,13 @@ BAD = {
     "descriptor": (26, image(puts=[(35, b"\xAC")])),
     "checksum": (28, image(puts=[(303, b"\x00")])),
     "v33": (29, image(33)),
+    "v64": (29, image(64)),
 }
 IMAGES |= {name: made for name, (_, made) in BAD.items()}
 UNITS = {name: unit for unit, name in enumerate(IMAGES)}
-assert len(UNITS) < 32  # the last unit stays zero
-EMPTY = 31
+EMPTY = SIZE // UNIT - 1
+assert len(UNITS) <= EMPTY  # the last unit stays zero
+FAILING = list(BAD) + ["other chip", "padding", "digest", "empty"]
 
 
 def listed(slots, factory=None, place=None, order=None, sizes={}):
@@ -343,8 +347,8 @@ def add_examples(cases):
 
 def add_active(cases):
     """Either sector active, by the higher sequence; sector 0 on a tie."""
-    for n in (2, 3, 8):
-        cases.list(listed(GOOD[:n], "i", place=0))
+    for n in (2, 3, 9, 16):
+        cases.list(listed(GOOD[:n], GOOD[n], place=0))
         for low, high in ((1, 2), (n, n + 1), (n - 1, 2 * n), (255, 256), (0x01000000, 0x01000001), (1, LAST - 1),
                           (LAST - 2, LAST - 1)):
             slot = (high - 1) % n
@@ -388,10 +392,10 @@ def add_fallbacks(cases):
 
 def add_same_slot(cases):
     """Both records name one slot: the active one's sector is used; if the active one is barred, the other still names the slot."""
-    for n in (2, 3, 8):
+    for n in (2, 3, 9, 16):
         for slot in (0, n - 1):
             low, high = slot + 1, slot + 1 + n
-            cases.list(listed(GOOD[:n], "i"))
+            cases.list(listed(GOOD[:n], GOOD[n]))
             for state in (VALID, NEW):
                 cases.boot(ROLLBACK, (record(low, state), record(high, state)), (0, slot, 1), writes=[1] if state == NEW else [])
                 cases.boot(ROLLBACK, (record(high, state), record(low, state)), (0, slot, 0), writes=[0] if state == NEW else [])
@@ -399,7 +403,7 @@ def add_same_slot(cases):
             cases.boot(ROLLBACK, (record(low, UNDEFINED), record(high, PENDING)), (0, slot, 0), writes=[1])
             cases.boot(PLAIN, (record(low, UNDEFINED), record(high, PENDING)), (0, slot, 1), writes=[])
             failing = GOOD[:slot] + ["magic"] + GOOD[slot + 1:n]
-            cases.list(listed(failing, "i"))
+            cases.list(listed(failing, GOOD[n]))
             cases.boot(ROLLBACK, (record(low, NEW), record(high, NEW)), (0, FACTORY, None), writes=[])
             cases.list(listed(failing))
             cases.boot(ROLLBACK, (record(low, NEW), record(high, NEW)), (0, 0 if slot else 1, None), writes=[])
@@ -407,10 +411,12 @@ def add_same_slot(cases):
 
 def add_search(cases):
     """The last search: upward from slot 0, past slots that fail and past those that an invalid or aborted record names."""
-    for n in (2, 3, 8):
+    for n in (2, 3, 9, 16):
         for first in range(n):  # no record at all
-            cases.list(listed(["magic", "v33", "checksum", "short", "flag", "chip", "length"][:first] + GOOD[first:n]))
+            cases.list(listed(FAILING[:first] + GOOD[first:n]))
             cases.boot(ROLLBACK, (BLANK, BLANK), (0, first, None, 7), writes=())
+        cases.list(listed(FAILING[:n]))
+        cases.boot(ROLLBACK, (BLANK, BLANK), (10, None, None, 7), writes=())
         cases.list(listed(GOOD[:n], order=range(n - 1, -1, -1)))
         for slot in range(n):  # one is barred, in either sector, by any sequence that names it
             want = (0, 1 if slot == 0 else 0, None, 7)
@@ -585,7 +591,7 @@ def add_refusals(cases):
         "subtype": right + [1, UNIT * UNITS["c"], SECTOR], "factory twice": with_factory + [0, UNIT * UNITS["d"], SECTOR],
         "offset": right[:1] + [SECTOR] + right[2:], "size 0": right[:2] + [0] + right[3:], "size": right[:2] + [6144] + right[3:],
         "overlap": right[:2] + [UNIT + SECTOR] + right[3:], "end": right[:4] + [SIZE - UNIT, UNIT + SECTOR],
-        "nine slots": listed(GOOD), "28 words": listed(GOOD[:8], "i") + [0],
+        "seventeen slots": listed(GOOD), "and factory": listed(GOOD, "v4"), "52 words": listed(GOOD[:16], GOOD[16]) + [0],
     }
     recs = record(5, PENDING, LABEL), record(4, NEW, LABEL)
     for words in wrong.values():
@@ -659,10 +665,10 @@ def add_lives(cases):
 def add_random(cases, rand):
     """States, sequences, apps, settings, numbers of slots and factory at random."""
     for _ in range(100):
-        n = rand.choice((2, 2, 3, 3, 4, 5, 6, 7, 8))
+        n = rand.choice((2, 2, 3, 3, *range(2, 17)))
         share = rand.choice((0.2, 0.5, 0.8))
         good = rand.sample(GOOD + BY_VERSION[:3] + BY_VERSION[4:] + ["flagged", "whole"], n + 1)
-        bad = rand.sample(list(BAD) + ["other chip", "padding", "digest"], n + 1)
+        bad = rand.sample(FAILING, n + 1)
         names = [good[k] if rand.random() < share else bad[k] for k in range(n + 1)]
         factory = names[n] if rand.random() < 0.4 else None
         cases.list(listed(names[:n], factory, rand.randrange(n + 1), rand.sample(range(n), n)))
@@ -730,9 +736,9 @@ def add_cut_apps(cases):
 
 def add_cut_sequences(cases):
     """Sequences with bytes of 0xFF: what is erased or not yet programmed of them makes no difference."""
-    cases.list(listed(GOOD[:8]))
     kept = record(6, VALID)
-    for p in (0, 1):
+    for n, p in itertools.product((9, 16), (0, 1)):
+        cases.list(listed(GOOD[:n]))
         order = 1 if p else -1
         for old, new in ((0x0000FFFF, 0x01FFFFFF), (0x00FFFFFF, 0x000001FF), (0x0100FFFF, 0x0100FFFF), (0xFEFFFFFF, 0x00FF00FF),
                          (LAST - 1, 0x00FFFFFE)):

@@ -1,15 +1,15 @@
 """The cases of the vectors: what a case holds, the buffers that it changes, and the lines that must be printed for it.
 
 The program `vectors` of the gate runs the kinds 0 to 10, through the library's crates and its C interface; the program `vectors` of
-tests/ runs 0, 7 and 11 to 15, through the static library. Both have a flash of 2,097,152 bytes, zero at first, and a list; the second also
-a buffer of 9,216 bytes of which otadata is the front.
-A case is 128 bytes; numbers are little-endian:
+tests/ runs 0, 7 and 11 to 15, through the static library. Both have a flash, zero at first, of 2,097,152 and of 4,194,304 bytes, and a
+list; the second also a buffer of 9,216 bytes of which otadata is the front.
+A case is 256 bytes; numbers are little-endian:
     0  kind, as below
     1  flags: 1 rollback, 2 anti-rollback, 4 lay the two records first
     2  half word: chip id, number of the list's words, or number of the sector
     4  word a, 8  word b, 12  word c
-   16  record of sector 0, 48  record of sector 1, 80  the record lent; or the bytes that are put into the flash; or the list's first 28
-       words: after them the gate's program has zeros, and the other repeats words 24 to 26
+   16  record of sector 0, 48  record of sector 1, 80  the record lent; or the bytes that are put into the flash; or the list's first 60
+       words: after them the gate's program has zeros, and the other repeats words 57 to 59
   124  start and step of sector 0's or the flash's filler, 126  those of sector 1's
 Byte i of what is filled is the front's, and after it the start, with step 1 plus 7 i + 13 (i / 256) + 29 (i / 65,536), mod 256. With step 2,
 in the gate's program alone, it is byte i % 4 of the number i - i % 4: the word at each multiple of 4 is its place.
@@ -41,7 +41,6 @@ import functools
 import operator
 import struct
 
-SIZE = 1 << 21
 BUFFER = 9216
 SECTOR = 4096
 LAST = 0xFFFFFFFF
@@ -49,6 +48,8 @@ PRIME = 4_294_967_291
 NAMES = "flash check slot version raise read make list part factory image active stores rewrite boot cuts".split()
 KINDS = {name: kind for kind, name in enumerate(NAMES)}
 FRONT = 108
+CASE = 256
+WORDS = 60
 
 
 @functools.lru_cache(None)
@@ -82,24 +83,25 @@ def total(data):
 
 class Cases:
     """The cases so far, the lines, and the buffers after them."""
+    size = 1 << 22
 
     def __init__(self):
         self.cases = bytearray()
         self.lines = []
-        self.flash = bytearray(SIZE)
+        self.flash = bytearray(self.size)
         self.buffer = bytearray(BUFFER)
         self.words = ()
 
     def add(self, name, a=0, b=0, c=0, half=0, flags=0, body=b""):
-        assert len(body) <= 112
-        self.cases += struct.pack("<BBHIII112s", KINDS[name], flags, half, a, b, c, body)
+        assert len(body) <= CASE - 16
+        self.cases += struct.pack(f"<BBHIII{CASE - 16}s", KINDS[name], flags, half, a, b, c, body)
 
     def say(self, name, *values):
         self.lines.append(" ".join([name, *map(str, values)]))
 
     def given(self, words):
         """A list as a case gives it."""
-        return tuple(words[i if i < 28 else 24 + i % 3] for i in range(len(words)))
+        return tuple(words[i if i < WORDS else WORDS - 3 + i % 3] for i in range(len(words)))
 
     def fill(self, at, count, pair, front=b""):
         """Fills a part of the flash."""
@@ -134,9 +136,10 @@ class Cases:
 
 class GateCases(Cases):
     """Those of the gate's program, which prints five numbers of each case."""
+    size = 1 << 21
 
     def given(self, words):
-        return tuple(words[:28]) + (0,) * (len(words) - 28)
+        return tuple(words[:WORDS]) + (0,) * (len(words) - WORDS)
 
     def add(self, name, *args, **more):
         super().add(name, *args, **more)

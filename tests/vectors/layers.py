@@ -8,10 +8,11 @@ import operator
 import random
 import struct
 
-from cases import LAST, SECTOR, filler, total
+from cases import LAST, SECTOR, WORDS, GateCases, filler, total
 
 FLASH = 16_777_216
-IMAGES = 1 << 20  # the front of the flash that holds an image or the parts
+IMAGES = 1 << 20  # the front of the flash that holds an image
+PARTS = GateCases.size
 ALIGN = 65536
 FACTORY = "factory"
 
@@ -38,7 +39,7 @@ def listing(words, flash):
     entries = [words[i:i + 3] for i in range(0, len(words), 3)]
     by_subtype = {subtype: (offset, offset + size) for subtype, offset, size in entries}
     slots = sorted(subtype for subtype in by_subtype if subtype != 0)
-    if len(by_subtype) != len(entries) or not 2 <= len(slots) <= 8 or slots != list(range(16, 16 + len(slots))):
+    if len(by_subtype) != len(entries) or not 2 <= len(slots) <= 16 or slots != list(range(16, 16 + len(slots))):
         return None
     for _, offset, size in entries:
         if offset % ALIGN != 0 or size == 0 or size % SECTOR != 0 or offset + size > flash:
@@ -115,16 +116,16 @@ class Layers:
         self.cases.add("raise", register, v)
         self.cases.say("raise", got)
 
-    def fill(self, step=1):
-        self.cases.fill(0, IMAGES, (0, step))
+    def fill(self, count=IMAGES, step=1):
+        self.cases.fill(0, count, (0, step))
 
     def list(self, words, flash=FLASH, right=None):
         places = add_list(self.cases, words, flash)
         assert right in (None, places is not None), (words, flash)
 
-    def part(self, words, slot, length, flash=IMAGES):
+    def part(self, words, slot, length, flash=PARTS):
         """The part of a slot, or of factory, and the length that it must have. Its first word is its place."""
-        if self.cases.words != self.cases.given(words):
+        if self.cases.words != tuple(words):
             self.list(words, flash)
         app = FACTORY if slot is None else slot
         found = app_part(self.cases.words, bytes(self.cases.flash[:flash]), app)
@@ -149,9 +150,11 @@ class Layers:
 
 def add_list(cases, words, flash):
     """A list, which those cases that need one have from now on. Gives where its apps lie."""
-    cases.words = cases.given(words)
+    cases.words = tuple(words)
+    assert cases.words == cases.given(words)
     places = listing(cases.words, flash)
-    cases.add("list", flash % (1 << 32), flash >> 32, half=len(words), body=struct.pack(f"<{len(words[:28])}I", *words[:28]))
+    first = words[:WORDS]
+    cases.add("list", flash % (1 << 32), flash >> 32, half=len(words), body=struct.pack(f"<{len(first)}I", *first))
     cases.say("list", *((1, 0, 0) if places is None else (0, slots_in(places), int(FACTORY in places))))
     return places
 
@@ -194,14 +197,13 @@ def changed(words, at, value):
 
 
 def add_right_lists(cases):
-    for n in range(2, 9):
+    for n in range(2, 17):
         cases.list(slots_of(n), right=True)
         for place in (0, n // 2, n):
             cases.list(slots_of(n, factory=place), right=True)
     for order in itertools.permutations(range(3)):
         for place in range(4):
             cases.list(slots_of(3, factory=place, order=order), right=True)
-    cases.list(slots_of(8, factory=4, order=(7, 3, 0, 5, 1, 6, 4, 2)), right=True)
     cases.list(slots_of(2, unit=0), 2 * ALIGN, right=True)  # at the flash's start and up to its end
     cases.list(slots_of(2, unit=0), 2 * ALIGN - 1, right=False)
     cases.list(entry(16, 0, SECTOR) + entry(17, 1, SECTOR), ALIGN + SECTOR, right=True)
@@ -211,12 +213,33 @@ def add_right_lists(cases):
     cases.list(entry(17, 0, FLASH - ALIGN) + entry(16, 255, SECTOR), right=True)
 
 
+def add_many_slots(cases):
+    """Nine and sixteen slots in another order, and with them one more, one twice, one missing and the subtypes after the last slot's."""
+    for n in (9, 16):
+        order = [(7 * k + 3) % n for k in range(n)]
+        assert sorted(order) == list(range(n)) != order
+        for factory in (None, 0, n // 2, n):
+            words = slots_of(n, factory=factory, order=order)
+            cases.list(words, right=True)
+            cases.list(words + entry(16 + n, 30), right=n < 16)
+            for subtype in (16 + n + 1, 32, 33):
+                cases.list(words + entry(subtype, 30), right=False)
+            for s in (0, n // 2, n - 1):
+                cases.list(words + entry(16 + s, 30), right=False)
+                rest = slots_of(n, factory=factory, order=[k for k in order if k != s])
+                cases.list(rest, right=s == n - 1)
+                for subtype in (16 + n, 32, 33):
+                    cases.list(rest + entry(subtype, 30), right=False)
+    for factory in (None, 0, 8, 17):
+        cases.list(slots_of(17, factory=factory), right=False)
+
+
 def add_wrong_lists(cases):
     """Each rule broken alone."""
     four = slots_of(4, factory=2)
     for words in ([], [0], four[:-1], four[:-2], four + [20], four + [20, 7 * ALIGN]):
         cases.list(words, right=False)
-    for subtype in (1, 15, 16 + 4, 16 + 5, 16 + 8, 32, LAST, LAST - 15, 0x10000010):
+    for subtype in (1, 15, 16 + 4, 16 + 5, 16 + 16, 33, LAST, LAST - 15, 0x10000010):
         cases.list(changed(four, 0, subtype), right=False)
         cases.list(changed(four, 6, subtype), right=subtype == 20)  # in place of factory
         cases.list(four + entry(subtype, 9), right=subtype == 20)
@@ -224,7 +247,7 @@ def add_wrong_lists(cases):
     for s in range(4):
         cases.list(four + entry(16 + s, 9), right=False)
         cases.list(slots_of(4, order=[k for k in range(4) if k != s]), right=s == 3)
-    for n in (0, 1, 9):
+    for n in (0, 1):
         cases.list(slots_of(n), right=False)
         cases.list(slots_of(n, factory=0), right=False)
     spaced = sum([entry(subtype, 2 * unit) for unit, subtype in enumerate((17, 0, 16, 18))], [])
@@ -258,26 +281,26 @@ def add_list_ends(cases):
             if size <= LAST:
                 cases.list(slots_of(2) + [18, offset, size], right=False)
                 cases.list([18, offset, size] + slots_of(2), FLASH, right=False)
-    for words in long_lists():
-        cases.list(words, right=len(words) == 27)
+    for words in long_lists([0, 0, 0]):
+        cases.list(words, right=len(words) == 51)
 
 
-def long_lists():
-    """Nine entries are the most."""
-    return [slots_of(8, factory=8) + [0] * (count - 27) for count in (27, 28, 29, 30, 31, 33, 150, 299, 300)]
+def long_lists(more):
+    """Seventeen entries, which are the most, and after them one again and again."""
+    return [(slots_of(16, factory=16) + 83 * more)[:count] for count in (51, 52, 53, 54, 55, 57, 150, 299, 300)]
 
 
 def add_repeated_lists(cases):
-    """Long lists whose entries are right but for being repeated."""
-    for words in (slots_of(9, factory=0), *long_lists()):
+    """Long lists whose entries are right but for factory being repeated."""
+    for words in (slots_of(17, factory=0), *long_lists(entry(0, 1))):
         places = add_list(cases, words, FLASH)
-        assert (places is not None) == (len(words) == 27), words
+        assert (places is not None) == (len(words) == 51), words
 
 
 def add_random_lists(cases, rand):
-    edges = [0, 1, 15, 16, 17, 23, 24, SECTOR, SECTOR - 1, ALIGN, ALIGN + SECTOR, 2 * ALIGN, 3 * ALIGN, FLASH - ALIGN, FLASH, LAST]
+    edges = [0, 1, 15, 16, 17, 24, 25, 31, 32, SECTOR, SECTOR - 1, ALIGN, ALIGN + SECTOR, 2 * ALIGN, 3 * ALIGN, FLASH - ALIGN, FLASH, LAST]
     for _ in range(150):
-        n = rand.randrange(2, 9)
+        n = rand.randrange(2, 18)
         units = rand.sample(range(256), n + 1)
         entries = [entry(16 + s, units[s], SECTOR * rand.randrange(1, 20)) for s in range(n)]
         entries += [entry(0, units[n])] if rand.randrange(2) else []
@@ -290,20 +313,25 @@ def add_random_lists(cases, rand):
 
 def add_parts(cases):
     """In a flash whose words are all different, so that the bytes of a part that is not empty are those of one place alone."""
-    cases.fill(2)
-    assert len(set(struct.unpack(f"<{IMAGES // 4}I", cases.cases.flash[:IMAGES]))) == IMAGES // 4
+    cases.fill(PARTS, step=2)
+    assert len(set(struct.unpack(f"<{PARTS // 4}I", cases.cases.flash))) == PARTS // 4
     mixed = slots_of(4, factory=2, order=(2, 0, 3, 1))
     mixed[2] = SECTOR  # slot 2
     for slot in (None, 0, 1, 2, 3):
         cases.part(mixed, slot, SECTOR if slot == 2 else ALIGN)
-        cases.part(slots_of(8, factory=8), slot, ALIGN)
-    cases.part(entry(16, 0, 7 * ALIGN) + entry(17, 7, 9 * ALIGN), 1, 9 * ALIGN)
-    cases.part(slots_of(8), 7, ALIGN, 10 * ALIGN)
+    for n in (9, 16):
+        for slot in (None, 0, 1, n - 2, n - 1):
+            cases.part(slots_of(n, factory=n), slot, ALIGN)
+        cases.part(slots_of(n), n - 1, ALIGN, (n + 2) * ALIGN)
+        cases.part(slots_of(n), n, 0)
+    cases.part(entry(16, 0, 7 * ALIGN) + entry(17, 7, 9 * ALIGN), 1, 9 * ALIGN, 16 * ALIGN)
     for slot in (4, 5, 8, 16, LAST, LAST - 15):  # unlisted
         cases.part(mixed, slot, 0)
     cases.part(slots_of(2), None, 0)
+    for slot in (None, 0, 15, 16):
+        cases.part(slots_of(17, factory=0), slot, 0)
     wrong = [[], mixed[:-1], mixed + mixed[:3], changed(mixed, 1, 2 * ALIGN + SECTOR), changed(mixed, 6, 1)]
-    for words, flash in [(words, IMAGES) for words in wrong] + [(mixed, 6 * ALIGN - 1), (mixed, 0)]:  # refused
+    for words, flash in [(words, PARTS) for words in wrong] + [(mixed, 6 * ALIGN - 1), (mixed, 0)]:  # refused
         for slot in (None, 0, 3):
             cases.part(words, slot, 0, flash)
     cases.fill()
@@ -492,7 +520,7 @@ def add_all(cases):
     rand = random.Random(20261116)
     layers = Layers(cases)
     add_efuse(layers, rand)
-    for add in (add_right_lists, add_wrong_lists, add_overlaps, add_list_ends):
+    for add in (add_right_lists, add_many_slots, add_wrong_lists, add_overlaps, add_list_ends):
         add(layers)
     add_random_lists(layers, rand)
     add_parts(layers)

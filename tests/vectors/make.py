@@ -11,7 +11,7 @@ import sys
 import boot
 import layers
 import records
-from cases import Cases, GateCases
+from cases import CASE, Cases, GateCases
 
 HERE = pathlib.Path(__file__).resolve().parents[2] / "crates" / "vectors"
 
@@ -36,7 +36,7 @@ def outside(folder):
     boots, rewrites = boot.add_all(cases)
     (folder / "cases").write_bytes(bytes(cases.cases))
     (folder / "lines").write_text("\n".join(cases.lines) + "\n")
-    print(f"vectors from outside: {len(cases.cases) // 128} cases, {boots} boots and all cuts of {rewrites} rewrites among them")
+    print(f"vectors from outside: {len(cases.cases) // CASE} cases, {boots} boots and all cuts of {rewrites} rewrites among them")
 
 
 if __name__ == "__main__":

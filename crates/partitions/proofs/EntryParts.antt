@@ -26,8 +26,9 @@ app-back n t (inr s) = simp (ne-eqb t factorySubtype (λ (z : t ≡ 0). omega ar
 listed-once : (list : List ℕ) (capacity t : ℕ) → RightList list capacity → FactoryOrSlot (slotCount list) t → timesListed list t ≤ 1
 listed-once list capacity t r (inl f) = omega (arith, r .factory, ap (timesListed list) f)
 listed-once list capacity t r (inr s) =
-    let same : slotSubtype (t - 16) ≡ t = omega arith in
-    omega (arith, r .slots (t - 16) (omega arith), ap (timesListed list) same)
+    let slot = t - slotSubtype 0 in
+    let same : slotSubtype slot ≡ t = omega arith in
+    omega (arith, r .slots slot (omega arith), ap (timesListed list) same)
 
 -- ---- the entry of a subtype that is listed once
 

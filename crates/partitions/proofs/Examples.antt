@@ -2,6 +2,7 @@
 -- Assumes nothing.
 use Prim.Native.Nat.{ℕ, suc, zero, _+_, _*_}
 use mathlib.Core.Path.{_≡_, refl}
+use mathlib.Core.Bool.{true}
 use mathlib.Core.List.{List, [], _∷_, _++_, map}
 use lib.ListN.{replicate}
 use Rattle.partitions.specs.PartitionList.{everyBelow, countBelow, right, checked}
@@ -27,18 +28,28 @@ factory-last :
 unfolding checked right everyBelow countBelow
 factory-last = refl
 
-eight-slots : checked (slotsInRow 8 ++ entry 0 0 4096) 16777216 .answer ≡ record { number = 0; values = 8 ∷ 1 ∷ [] }
+-- every n from 2 to 16
+each-number-of-slots : everyBelow 15 (λ (k : ℕ). right (slotsInRow (2 + k)) 16777216) ≡ true
+unfolding right everyBelow countBelow
+each-number-of-slots = refl
+
+nine-slots : checked (slotsInRow 9) 655360 .answer ≡ record { number = 0; values = 9 ∷ 0 ∷ [] }
 unfolding checked right everyBelow countBelow
-eight-slots = refl
+nine-slots = refl
+
+sixteen-slots : checked (slotsInRow 16 ++ entry 0 0 4096) 16777216 .answer ≡ record { number = 0; values = 16 ∷ 1 ∷ [] }
+unfolding checked right everyBelow countBelow
+sixteen-slots = refl
 
 -- ---- refused, in the largest flash
 
 refused-lists : List (List ℕ)
 refused-lists =
-    -- no slot, one slot, nine slots
+    -- no slot, one slot, seventeen slots; sixteen, of which the last has the subtype of a seventeenth
     []
     ∷ (slotsInRow 1 ++ entry 0 0 65536)
-    ∷ slotsInRow 9
+    ∷ slotsInRow 17
+    ∷ (slotsInRow 15 ++ entry 32 1048576 65536)
     -- a broken triple; factory twice; a slot twice, or left out; another subtype
     ∷ (slotsInRow 2 ++ 0 ∷ [])
     ∷ (entry 0 524288 65536 ++ slotsInRow 2 ++ entry 0 262144 65536)
@@ -55,7 +66,7 @@ refused-lists =
     ∷ (entry 16 65536 69632 ++ entry 17 131072 65536)
     ∷ []
 
-each-refused : map (λ (list : List ℕ). checked list 16777216 .answer) refused-lists ≡ replicate 14 (record { number = 1; values = [] })
+each-refused : map (λ (list : List ℕ). checked list 16777216 .answer) refused-lists ≡ replicate 15 (record { number = 1; values = [] })
 unfolding refused-lists checked right everyBelow countBelow
 each-refused = refl
 

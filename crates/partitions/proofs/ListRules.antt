@@ -24,17 +24,17 @@ module _ (list : List ℕ) (n capacity : ℕ) where
     pub too-many : maxSlots < n → false ≡ slotsRight list n capacity
     too-many l = simp (le-leb 2 n two, lt-leb n maxSlots l)
 
-    module _ (eight : n ≤ maxSlots) (o : Bool) (counted : o ≡ eachSlotOnce list n) where
+    module _ (most : n ≤ maxSlots) (o : Bool) (counted : o ≡ eachSlotOnce list n) where
       pub not-each-once : not o ≡ true → false ≡ slotsRight list n capacity
-      not-each-once e = simp (le-leb 2 n two, le-leb n maxSlots eight, ← counted, not-true o e)
+      not-each-once e = simp (le-leb 2 n two, le-leb n maxSlots most, ← counted, not-true o e)
 
       module _ (once : not o ≡ false) (r : Bool) (tested : r ≡ eachEntryRight list n capacity) where
         pub not-each-right : not r ≡ true → false ≡ slotsRight list n capacity
-        not-each-right e = simp (le-leb 2 n two, le-leb n maxSlots eight, ← counted, not-false o once, ← tested, not-true r e)
+        not-each-right e = simp (le-leb 2 n two, le-leb n maxSlots most, ← counted, not-false o once, ← tested, not-true r e)
 
         pub overlap-decides : not r ≡ false → (a : Bool) → a ≡ noTwoOverlap list → a ≡ slotsRight list n capacity
         overlap-decides e a compared =
-            simp (le-leb 2 n two, le-leb n maxSlots eight, ← counted, not-false o once, ← tested, not-false r e, ← compared)
+            simp (le-leb 2 n two, le-leb n maxSlots most, ← counted, not-false o once, ← tested, not-false r e, ← compared)
 
 -- ---- the whole list
 

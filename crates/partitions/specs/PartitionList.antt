@@ -65,9 +65,9 @@ slotCount list = entryCount list - timesListed list factorySubtype
 
 -- ---- the rules
 
--- n is from 2 to 8
+-- n is from 2 to 16 (document 02, order 4)
 abbrev pub maxSlots : ℕ
-maxSlots = 8
+maxSlots = 16
 
 -- a flash has at most 16,777,216 bytes
 abbrev pub maxFlash : ℕ

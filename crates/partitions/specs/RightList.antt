@@ -23,7 +23,7 @@ pub record RightEntry (n capacity : ℕ) (e : Entry) : Type 0 where
   pub size : e .size % 4096 ≡ 0
   pub ends : endOf e ≤ capacity
 
--- the list: no broken triple; factory at most once; slots 16 to 16 + n - 1 each once, n from 2 to 8; every entry right;
+-- the list: no broken triple; factory at most once; slots 16 to 16 + n - 1 each once, n from 2 to 16; every entry right;
 -- no byte in two of them; and the flash itself
 pub record RightList (list : List ℕ) (capacity : ℕ) : Type 0 where
   pub triples : length list % 3 ≡ 0

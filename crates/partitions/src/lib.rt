@@ -10,7 +10,7 @@ use otadata::Slot;
 pub const BAD_LIST: u32 = 1;
 
 // The most slots that a list may have, and the most words: three for each slot, and three for factory.
-pub const MAX_SLOTS: usize = 8;
+pub const MAX_SLOTS: usize = 16;
 
 pub const MAX_WORDS: usize = 3 * (MAX_SLOTS + 1);
 

@@ -1,4 +1,4 @@
-// Runs the cases on standard input, 128 bytes each, and prints a line for each. tests/vectors/cases.py says what a case and its line hold.
+// Runs the cases on standard input, 256 bytes each, and prints a line for each. tests/vectors/cases.py says what a case and its line hold.
 mod answers;
 mod buffers;
 mod output;
@@ -10,7 +10,7 @@ use libc::STDIN_FILENO;
 use output::print;
 
 fn main() {
-    run(&mut [0u8; 128], &mut [0u32; 300], &mut zeros());
+    run(&mut [0u8; 256], &mut [0u32; 300], &mut zeros());
 }
 
 // The flash at first.
@@ -22,7 +22,7 @@ fn zeros() -> [u8; 2097152] {
 fn run(case: &mut [u8], list: &mut [u32], flash: &mut [u8]) {
     let mut count = 0;
     for _ in 0..100000u32 {
-        if io::read_full(STDIN_FILENO, case) != 128 {
+        if io::read_full(STDIN_FILENO, case) != 256 {
             return;
         }
         change(case, flash);

@@ -1,4 +1,4 @@
-//! Runs the vectors of sectors, boot and power cuts through the static library: reads the cases on standard input, 128 bytes each, and
+//! Runs the vectors of sectors, boot and power cuts through the static library: reads the cases on standard input, 256 bytes each, and
 //! prints what `tests/vectors/cases.py` says of each.
 
 use ota_tests::ffi::{self, Node, Settings};
@@ -40,9 +40,9 @@ struct Buffers {
 fn main() {
     let mut cases = Vec::new();
     io::stdin().read_to_end(&mut cases).expect("the cases are read");
-    let mut buffers = Buffers { list: Vec::new(), flash: vec![0; 1 << 21], otadata: vec![0; 9216] };
+    let mut buffers = Buffers { list: Vec::new(), flash: vec![0; 1 << 22], otadata: vec![0; 9216] };
     let mut lines = String::new();
-    for bytes in cases.chunks(128) {
+    for bytes in cases.chunks(256) {
         let case = Case(bytes);
         if bytes[1] & 4 != 0 {
             let (first, second) = buffers.otadata.split_at_mut(SECTOR);
@@ -75,7 +75,7 @@ fn fill(part: &mut [u8], front: &[u8], filler: &[u8]) {
 }
 
 fn list(case: &Case, buffers: &mut Buffers) -> String {
-    let place = |i| 16 + 4 * if i < 28 { i } else { 24 + i % 3 };
+    let place = |i| 16 + 4 * if i < 60 { i } else { 57 + i % 3 };
     buffers.list = (0..case.half() as usize).map(|i| case.word(place(i))).collect();
     let mut out = [0; 2];
     let number = ffi::check_list(&buffers.list, case.size(4) + (case.size(8) << 32), &mut out);

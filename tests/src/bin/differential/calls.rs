@@ -15,7 +15,6 @@ use std::fmt::{Debug, Write};
 /// What must come up besides the numbers.
 pub fn to_be_met() -> Vec<String> {
     let mut things: Vec<String> = Rule::ALL.iter().map(|rule| format!("check_list: rule {rule:?} broken")).collect();
-    things.extend((2..=8).map(|n| format!("boot: {n} slots")));
     things.extend(State::ALL.iter().map(|state| format!("state_query: {state:?}")));
     things.extend(
         [
@@ -215,10 +214,14 @@ impl Run {
         if let Some(rule) = list.broken {
             assert_eq!(number, 1, "the generator broke no rule: {list:x?}");
             self.tally.met(format!("check_list: rule {rule:?} broken"));
+            if rule == Rule::SeventeenSlots {
+                self.tally.slots("check_list", list.n);
+            }
         }
         if let Ok(accepted) = reply {
             let with = if accepted.factory.is_some() { "with" } else { "without" };
             self.tally.met(format!("check_list: {with} factory"));
+            self.tally.slots("check_list", accepted.n());
         }
     }
 
@@ -280,12 +283,11 @@ impl Run {
         };
         self.same("boot", &Inputs(case), library, (number, out));
         self.same_bytes("boot", &Inputs(case), &bytes, &otadata);
-        self.tally.number("boot", number);
+        self.tally_node("boot", case, number);
 
         if number != 0 && number != 10 {
             return;
         }
-        self.tally.met(format!("boot: {} slots", case.list.n));
         let (before, after) = (sector::readings(&case.otadata), sector::readings(&otadata));
         let marked = |state| (0..2).filter(|i| before[*i] != after[*i] && after[*i].unwrap().state == state).count();
         match marked(State::Aborted) {
@@ -321,7 +323,7 @@ impl Run {
         let out = image_refusal(&reply);
         self.same("set_boot", &Inputs(case), library, (number, out));
         self.same_bytes("set_boot", &Inputs(case), &bytes, &otadata);
-        self.tally_with_image("set_boot", &reply);
+        self.tally_with_image("set_boot", case, &reply);
         if number == 0 {
             if sector::active(&sector::readings(&case.otadata)).is_none() {
                 self.tally.met("set_boot: no active record");
@@ -355,7 +357,7 @@ impl Run {
         let out = [reply.unwrap_or(settings.efuse).into(), image_number, place];
         self.same("mark_valid", &Inputs(case), library, (number, out));
         self.same_bytes("mark_valid", &Inputs(case), &bytes, &otadata);
-        self.tally_with_image("mark_valid", &reply);
+        self.tally_with_image("mark_valid", case, &reply);
         if let Ok(register) = reply {
             if otadata == case.otadata {
                 self.tally.met("mark_valid: valid already");
@@ -373,7 +375,7 @@ impl Run {
         let reply = update::mark_invalid(&case.list.words, self.flash_of(case), &mut otadata, &settings, case.slot);
         self.same("mark_invalid", &Inputs(case), number, number_of(&reply));
         self.same_bytes("mark_invalid", &Inputs(case), &bytes, &otadata);
-        self.tally.number("mark_invalid", number);
+        self.tally_node("mark_invalid", case, number);
         if let Some(number) = rewritten(&case.otadata, &otadata) {
             self.tally.met(format!("mark_invalid: sector {number} rewritten"));
         }
@@ -387,7 +389,7 @@ impl Run {
         let number = number_of(&reply);
         self.same("state_query", &Inputs(case), library, (number, [out]));
         self.same_bytes("state_query", &Inputs(case), &bytes, &case.otadata);
-        self.tally.number("state_query", number);
+        self.tally_node("state_query", case, number);
         if let Ok(state) = reply {
             self.tally.met(format!("state_query: {state:?}"));
             let readings = sector::readings(&case.otadata);
@@ -412,7 +414,7 @@ impl Run {
         let number = number_of(&reply);
         self.same("next_slot", &Inputs(case), library, (number, [reply.unwrap_or(0)]));
         self.same_bytes("next_slot", &Inputs(case), &bytes, &case.otadata);
-        self.tally.number("next_slot", number);
+        self.tally_node("next_slot", case, number);
         if number == 0 {
             match running {
                 App::Factory if case.list.words.chunks(3).all(|entry| entry[0] != 0) => {
@@ -438,8 +440,17 @@ impl Run {
         })
     }
 
-    fn tally_with_image<T>(&mut self, call: &'static str, reply: &Result<T, Refusal>) {
-        self.tally.number(call, number_of(reply));
+    /// Test 1 comes before all others, and a list breaks a rule exactly where the generator has broken one.
+    fn tally_node(&mut self, call: &'static str, case: &NodeCase, number: u32) {
+        assert_eq!(number == 1, case.list.broken.is_some(), "{call}: {:?}", Inputs(case));
+        self.tally.number(call, number);
+        if number == 0 || case.list.broken == Some(Rule::SeventeenSlots) {
+            self.tally.slots(call, case.list.n);
+        }
+    }
+
+    fn tally_with_image<T>(&mut self, call: &'static str, case: &NodeCase, reply: &Result<T, Refusal>) {
+        self.tally_node(call, case, number_of(reply));
         if let Err(Refusal::Image(refusal)) = reply {
             self.tally.image_number(call, refusal.number);
         }

@@ -13,7 +13,7 @@ use ota_tests::rng::Rng;
 use ota_tests::sector::{self, active, read, readings, OTADATA_SIZE, SECTOR_SIZE, STORES};
 use ota_tests::settings::Settings;
 
-/// The versions of the slots' apps; the last slot is erased.
+/// The versions of the apps of four slots, of which the last is erased. Of more slots, the next four have the same, and so on.
 const SLOTS: [Option<u32>; 4] = [Some(3), Some(5), Some(1), None];
 
 const OFF: ffi::Settings = ffi::Settings { chip_id: 0, efuse: 0b10_0110, rollback: 0, anti_rollback: 0 };
@@ -21,7 +21,7 @@ const ROLLBACK: ffi::Settings = ffi::Settings { rollback: 1, ..OFF };
 const ANTI_ROLLBACK: ffi::Settings = ffi::Settings { anti_rollback: 1, ..ROLLBACK };
 
 /// Random lists of rewrites, beside the rewrites that are cut at every place.
-const LISTS: usize = 500;
+const LISTS: usize = 1_000;
 
 /// How many cuts were made, and what they left.
 #[derive(Default)]
@@ -84,14 +84,14 @@ fn every_cut(cuts: &mut Cuts) {
             let settings = [OFF, ROLLBACK, ANTI_ROLLBACK][(turn + step / 2) % 3];
             let factory = (step % 3 == 0 && settings.anti_rollback == 0).then_some(9);
             let other = others[(turn / 2 + step) % 2];
-            let mut setup = Setup::new(start, (turn + step) % 2, &other, settings, factory);
+            let mut setup = Setup::new(4, start, (turn + step) % 2, &other, settings, factory);
             setup.rewrite(new, STORES, |setup, cut| setup.hold(cuts, start, new, cut));
             cuts.rewrites += 1;
         }
     }
 }
 
-/// Random lists of rewrites on one sector, each with its own record and cut, on the bytes that the one before left.
+/// Random lists of rewrites on one sector, each with its own record and cut, on the bytes that the one before left, with 2 to 16 slots.
 fn lists_of_rewrites(cuts: &mut Cuts, seed: u64) {
     let mut rng = Rng::new(seed);
     for _ in 0..LISTS {
@@ -100,8 +100,13 @@ fn lists_of_rewrites(cuts: &mut Cuts, seed: u64) {
             true => vec![0xFF; SECTOR_SIZE],
             false => sector_with(good_record(&mut rng), rng.pick(&[0xFF, 0x00, 0x5A])),
         };
-        let other = record(rng.pick(&[2, 6, 10, HIGHEST_SEQUENCE]), 0xFF, rng.pick(&[State::Valid, State::New]));
-        let mut setup = Setup::new(&start, rng.below(2), &other, settings, None);
+        // The other record names slot 1, or a later one of the same version.
+        let n = 2 + rng.below(15) as u32;
+        let slot = rng.pick(&[1, 5, 9, 13].map(|slot| if slot < n { slot } else { 1 }));
+        let highest = HIGHEST_SEQUENCE - (HIGHEST_SEQUENCE - 1 - slot) % n;
+        let sequence = rng.pick(&[slot + 1, slot + 1 + n, slot + 1 + 2 * n, highest]);
+        let other = record(sequence, 0xFF, rng.pick(&[State::Valid, State::New]));
+        let mut setup = Setup::new(n as usize, &start, rng.below(2), &other, settings, None);
         for _ in 0..1 + rng.below(5) {
             let new = good_record(&mut rng);
             let last = match rng.below(4) {
@@ -155,8 +160,16 @@ struct Setup {
 }
 
 impl Setup {
-    fn new(start: &[u8], number: usize, other: &[u8; 32], settings: ffi::Settings, factory: Option<u32>) -> Setup {
-        let (list, flash) = plain_node(&SLOTS, factory);
+    fn new(
+        n: usize,
+        start: &[u8],
+        number: usize,
+        other: &[u8; 32],
+        settings: ffi::Settings,
+        factory: Option<u32>,
+    ) -> Setup {
+        let slots: Vec<Option<u32>> = SLOTS.into_iter().cycle().take(n).collect();
+        let (list, flash) = plain_node(&slots, factory);
         let partitions = partition::check(&list, flash.len()).unwrap();
         let mut otadata = vec![0xFF; OTADATA_SIZE];
         otadata[number * SECTOR_SIZE..][..SECTOR_SIZE].copy_from_slice(start);

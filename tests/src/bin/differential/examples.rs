@@ -1,4 +1,4 @@
-//! The examples of document 01, held on both sides: the model and the library.
+//! The examples of document 01, and those of document 02 with nine slots and more, held on both sides: the model and the library.
 
 use crate::calls::plain;
 use ota_tests::boot::{self, App, Started};
@@ -6,12 +6,22 @@ use ota_tests::ffi::{self, Node};
 use ota_tests::generate::{plain_image, plain_node, two_sectors};
 use ota_tests::record::{self, State};
 use ota_tests::refusal::number_of;
-use ota_tests::{image, settings, update};
+use ota_tests::{image, partition, settings, update};
 
 const ROLLBACK: ffi::Settings = ffi::Settings { chip_id: 0, efuse: 0, rollback: 1, anti_rollback: 0 };
 
 pub fn run() -> usize {
-    let examples = [records, set_boot_sequences, boot_through_sequence_4, registers, images, segment_lengths];
+    let examples = [
+        records,
+        set_boot_sequences,
+        boot_through_sequence_4,
+        boot_of_the_last_slot,
+        next_slots,
+        seventeen_slots,
+        registers,
+        images,
+        segment_lengths,
+    ];
     examples.iter().for_each(|example| example());
     examples.len()
 }
@@ -34,11 +44,23 @@ fn records() {
 
 fn set_boot_sequences() {
     let highest = 4_294_967_294;
-    let cases = [(2, 5, 1, Ok(6)), (3, 4, 2, Ok(6)), (2, highest - 1, 1, Ok(highest)), (2, highest, 0, Err(7))];
+    let cases = [
+        (2, 5, 1, Ok(6)),
+        (3, 4, 2, Ok(6)),
+        (2, highest - 1, 1, Ok(highest)),
+        (2, highest, 0, Err(7)),
+        // From the last slot to slot 0, and back.
+        (9, 9, 0, Ok(10)),
+        (9, 10, 8, Ok(18)),
+        (16, 16, 0, Ok(17)),
+        (16, 17, 15, Ok(32)),
+        // The highest sequence names slot 13 of sixteen.
+        (16, highest - 15, 13, Ok(highest)),
+        (16, highest - 14, 14, Err(7)),
+    ];
     for (n, active, slot, expected) in cases {
         let (list, flash) = plain_node(&vec![Some(1); n], None);
-        let record = record::make(active, &[0xFF; 20], State::Valid.word()).ok();
-        let before = two_sectors(record, None);
+        let before = two_sectors(made(active, State::Valid), None);
         let written = |number: u32, otadata: &[u8]| match number {
             0 => Ok(record::word_at(otadata, 4096)),
             _ => {
@@ -54,17 +76,96 @@ fn set_boot_sequences() {
     }
 }
 
+/// A boot that starts a slot, on both sides, and leaves otadata as it is.
+fn boot_both(list: &[u32], flash: &[u8], otadata: Vec<u8>, slot: u32, sector: Option<usize>) {
+    let (mut library, mut model) = (otadata.clone(), otadata.clone());
+    let mut out = [9; 4];
+    let node = Node { list, flash, otadata: &mut library };
+    assert_eq!((ffi::boot(node, ROLLBACK, &mut out), out), (0, [2, slot, sector.unwrap_or(2) as u32, 0]));
+    let started = Started { app: App::Slot(slot), sector, efuse: 0 };
+    assert_eq!(boot::boot(list, flash, &mut model, &plain(ROLLBACK)), Ok(started));
+    both(library, model, otadata);
+}
+
+fn made(sequence: u32, state: State) -> Option<[u8; 32]> {
+    record::make(sequence, &[0xFF; 20], state.word()).ok()
+}
+
 fn boot_through_sequence_4() {
     let (list, flash) = plain_node(&[None, Some(1)], None);
-    let record = |sequence, state: State| record::make(sequence, &[0xFF; 20], state.word()).ok();
-    let before = two_sectors(record(4, State::Valid), record(5, State::Aborted));
-    let (mut library, mut model) = (before.clone(), before.clone());
-    let mut out = [9; 4];
-    let node = Node { list: &list, flash: &flash, otadata: &mut library };
-    assert_eq!((ffi::boot(node, ROLLBACK, &mut out), out), (0, [2, 1, 0, 0]));
-    let started = Started { app: App::Slot(1), sector: Some(0), efuse: 0 };
-    assert_eq!(boot::boot(&list, &flash, &mut model, &plain(ROLLBACK)), Ok(started));
-    both(library, model, before);
+    boot_both(&list, &flash, two_sectors(made(4, State::Valid), made(5, State::Aborted)), 1, Some(0));
+}
+
+/// Slot 8 of nine and slot 15 of sixteen: through a record in either sector, and found by the last search.
+fn boot_of_the_last_slot() {
+    for n in [9, 16] {
+        let last = n - 1;
+        let (list, flash) = plain_node(&vec![Some(1); n as usize], None);
+        for sequence in [n, 2 * n, 100 * n] {
+            let (lower, active) = (made(sequence - 1, State::Valid), made(sequence, State::Valid));
+            boot_both(&list, &flash, two_sectors(active, lower), last, Some(0));
+            boot_both(&list, &flash, two_sectors(lower, active), last, Some(1));
+        }
+        let mut slots = vec![None; n as usize];
+        slots[last as usize] = Some(1);
+        let (list, flash) = plain_node(&slots, None);
+        boot_both(&list, &flash, two_sectors(None, None), last, None);
+        boot_both(&list, &flash, two_sectors(made(1, State::Invalid), made(last, State::Aborted)), last, None);
+        boot_both(&list, &flash, two_sectors(made(1, State::Valid), made(2 * n, State::Valid)), last, Some(1));
+    }
+}
+
+fn next_slots() {
+    for n in [9, 16] {
+        let (list, flash) = plain_node(&vec![Some(1); n as usize], Some(1));
+        let mut otadata = two_sectors(None, None);
+        let running = [(App::Slot(0), 1), (App::Slot(n - 2), n - 1), (App::Slot(n - 1), 0), (App::Factory, 0)];
+        for (app, expected) in running {
+            let mut out = [9];
+            let number = match app {
+                App::Factory => ffi::RUNNING_FACTORY,
+                App::Slot(slot) => slot,
+            };
+            let node = Node { list: &list, flash: &flash, otadata: &mut otadata };
+            assert_eq!(ffi::next_slot(node, ROLLBACK, number, &mut out), 0);
+            let model = update::next_slot(&list, &flash, &otadata, &plain(ROLLBACK), app);
+            both(Ok(out[0]), model, Ok(expected));
+        }
+    }
+}
+
+/// All calls with a list refuse it with 1 and leave otadata as it is, with and without factory; without the last slot they don't.
+fn seventeen_slots() {
+    for factory in [None, Some(1)] {
+        let (list, flash) = plain_node(&[Some(1); 17], factory);
+        let before = two_sectors(made(17, State::Pending), made(18, State::New));
+        let mut otadata = before.clone();
+        let mut on_node = |call: fn(Node) -> u32| call(Node { list: &list, flash: &flash, otadata: &mut otadata });
+        let numbers = [
+            ffi::check_list(&list, flash.len(), &mut [9; 2]),
+            on_node(|node| ffi::boot(node, ROLLBACK, &mut [9; 4])),
+            on_node(|node| ffi::set_boot(node, ROLLBACK, 0, &mut [9; 2])),
+            on_node(|node| ffi::mark_valid(node, ROLLBACK, 16, &mut [9; 3])),
+            on_node(|node| ffi::mark_invalid(node, ROLLBACK, 16)),
+            on_node(|node| ffi::state_query(node, 16, &mut [9])),
+            on_node(|node| ffi::next_slot(node, ROLLBACK, 16, &mut [9])),
+        ];
+        let settings = plain(ROLLBACK);
+        let mut model = before.clone();
+        let refused = [
+            number_of(&partition::check(&list, flash.len())),
+            number_of(&boot::boot(&list, &flash, &mut model, &settings)),
+            number_of(&update::set_boot(&list, &flash, &mut model, &settings, 0)),
+            number_of(&update::mark_valid(&list, &flash, &mut model, &settings, 16)),
+            number_of(&update::mark_invalid(&list, &flash, &mut model, &settings, 16)),
+            number_of(&update::state_query(&list, &flash, &model, 16)),
+            number_of(&update::next_slot(&list, &flash, &model, &settings, App::Slot(16))),
+        ];
+        both(numbers, refused, [1; 7]);
+        both(otadata, model, before);
+        let (list, flash) = plain_node(&[Some(1); 16], factory);
+        assert_eq!(ffi::check_list(&list, flash.len(), &mut [9; 2]), 0);
+    }
 }
 
 fn registers() {

@@ -22,6 +22,11 @@ const NUMBERS: [(&str, &[u32]); 12] = [
     ("5 with", &[21, 22, 23, 24, 25, 26, 27, 28, 29]),
 ];
 
+/// The calls with a list, and the numbers of slots that it is drawn with.
+const WITH_LIST: [&str; 7] =
+    ["check_list", "boot", "set_boot", "mark_valid", "mark_invalid", "state_query", "next_slot"];
+const SLOT_COUNTS: std::ops::RangeInclusive<u32> = 2..=17;
+
 const CALL_NUMBERS: [u32; 14] = [0, 1, 2, 3, 4, 5, 6, 7, 8, 9, 10, 11, 12, 17];
 const IMAGE_NUMBERS: [u32; 11] = [0, 20, 21, 22, 23, 24, 25, 26, 27, 28, 29];
 
@@ -29,6 +34,7 @@ const IMAGE_NUMBERS: [u32; 11] = [0, 20, 21, 22, 23, 24, 25, 26, 27, 28, 29];
 pub struct Tally {
     numbers: BTreeMap<(&'static str, u32), u64>,
     image_numbers: BTreeMap<(&'static str, u32), u64>,
+    slots: BTreeMap<(&'static str, u32), u64>,
     met: BTreeMap<String, u64>,
     pub calls: u64,
 }
@@ -46,12 +52,18 @@ impl Tally {
         *self.image_numbers.entry((call, number)).or_default() += 1;
     }
 
+    /// A call gave 0 with a list of n slots, or 1 with one of seventeen.
+    pub fn slots(&mut self, call: &'static str, n: u32) {
+        *self.slots.entry((call, n)).or_default() += 1;
+    }
+
     /// Something worth meeting came up.
     pub fn met(&mut self, what: impl Into<String>) {
         *self.met.entry(what.into()).or_default() += 1;
     }
 
-    /// Asserts that every number of both tables came up often enough, in each call that can give it, and all of `things`.
+    /// Asserts that every number of both tables came up often enough, in each call that can give it, each call with each number
+    /// of slots, and all of `things`.
     pub fn assert_met(&self, things: &[String]) {
         for (call, numbers) in NUMBERS {
             let rows: &[&'static str] = if call == "5 with" { &["set_boot", "mark_valid"] } else { &[call] };
@@ -64,6 +76,12 @@ impl Tally {
                 }
             }
         }
+        for call in WITH_LIST {
+            for n in SLOT_COUNTS {
+                let count = self.slots.get(&(call, n)).copied().unwrap_or(0);
+                assert!(count >= AT_LEAST, "{call} with {n} slots only {count} times");
+            }
+        }
         for thing in things {
             let count = self.met.get(thing).copied().unwrap_or(0);
             assert!(count >= AT_LEAST, "'{thing}' came up only {count} times");
@@ -73,6 +91,7 @@ impl Tally {
     pub fn print(&self) {
         print_table("call \\ number", &CALL_NUMBERS, &self.numbers);
         print_table("image number", &IMAGE_NUMBERS, &self.image_numbers);
+        print_table("call \\ slots", &SLOT_COUNTS.collect::<Vec<u32>>(), &self.slots);
         println!("{:>9}  came up", "times");
         for (what, count) in &self.met {
             println!("{count:>9}  {what}");
@@ -98,6 +117,6 @@ fn print_table(corner: &str, columns: &[u32], counts: &BTreeMap<(&'static str, u
     }
     let unlisted =
         counts.keys().find(|(row, number)| !columns.contains(number) || !NUMBERS.iter().any(|(call, _)| call == row));
-    assert_eq!(unlisted, None, "a number that document 01 doesn't give");
+    assert_eq!(unlisted, None, "{corner}: no such column or row");
     println!();
 }
