@@ -8,6 +8,7 @@ use ota_tests::rng::Rng;
 use ota_tests::sector::SECTOR_SIZE;
 use ota_tests::settings::Settings;
 use ota_tests::{boot, image, partition, sector};
+use std::fmt::Debug;
 use std::hint::black_box;
 use std::time::Instant;
 
@@ -94,22 +95,37 @@ fn random_image(length: usize) -> Vec<u8> {
     image
 }
 
-fn check_image(name: &str, length: usize) {
-    let image = random_image(length);
-    let library = |image: &[u8]| {
-        let mut out = [0; 4];
-        (ffi::check_image(image, 0, &mut out), out[0])
-    };
-    let model = |image: &[u8]| image::check(image, 0).map(|facts| facts.length);
-    assert_eq!((library(&image), model(&image)), ((0, length as u64), Ok(length as u64)));
+/// Times a check of the same input, which both sides accept with the same value.
+fn accepted<I: ?Sized, T: PartialEq + Debug>(
+    name: &str,
+    input: &I,
+    value: T,
+    library: impl Fn(&I) -> (u32, T),
+    model: impl Fn(&I) -> Option<T>,
+) {
+    assert_eq!(library(input), (0, model(input).unwrap()));
+    assert_eq!(library(input).1, value);
     row(
         name,
         || {
-            black_box(library(black_box(&image)));
+            black_box(library(black_box(input)));
         },
         || {
-            black_box(model(black_box(&image))).unwrap();
+            black_box(model(black_box(input)));
         },
+    );
+}
+
+fn check_image(name: &str, length: usize) {
+    accepted(
+        name,
+        &random_image(length)[..],
+        length as u64,
+        |image| {
+            let mut out = [0; 4];
+            (ffi::check_image(image, 0, &mut out), out[0])
+        },
+        |image| image::check(image, 0).ok().map(|facts| facts.length),
     );
 }
 
@@ -140,21 +156,15 @@ fn slots(n: u32, size: usize) -> Vec<u32> {
 }
 
 fn check_list() {
-    let list = slots(16, 64 << 10);
-    let library = |list: &[u32]| {
-        let mut out = [0; 2];
-        (ffi::check_list(list, FLASH_MAX, &mut out), out[0])
-    };
-    let model = |list: &[u32]| partition::check(list, FLASH_MAX).map(|accepted| accepted.n());
-    assert_eq!((library(&list), model(&list)), ((0, 16), Ok(16)));
-    row(
+    accepted(
         "list check, sixteen slots",
-        || {
-            black_box(library(black_box(&list)));
+        &slots(16, 64 << 10)[..],
+        16,
+        |list| {
+            let mut out = [0; 2];
+            (ffi::check_list(list, FLASH_MAX, &mut out), out[0])
         },
-        || {
-            black_box(model(black_box(&list))).unwrap();
-        },
+        |list| partition::check(list, FLASH_MAX).ok().map(|partitions| partitions.n()),
     );
 }
 

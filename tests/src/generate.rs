@@ -498,7 +498,7 @@ fn break_list(rng: &mut Rng, list: List, rule: Rule) -> List {
             n = 17;
         }
         Rule::OtherSubtype => {
-            let subtype = rng.pick(&[1, 2, 15, 33, 34, 0x100, 0x110, 0x1_0000, 0x1_0010, 0x8000_0010, 0xFFFF_FFFF]);
+            let subtype = rng.pick(&[1, 2, 15, 32, 33, 0x100, 0x110, 0x1_0000, 0x1_0010, 0x8000_0010, 0xFFFF_FFFF]);
             add(&mut entries, &mut flash_len, subtype);
         }
         Rule::Offset => {

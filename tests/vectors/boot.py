@@ -347,7 +347,7 @@ def add_examples(cases):
 
 def add_active(cases):
     """Either sector active, by the higher sequence; sector 0 on a tie."""
-    for n in (2, 3, 9, 16):
+    for n in (2, 3, 8, 9, 16):
         cases.list(listed(GOOD[:n], GOOD[n], place=0))
         for low, high in ((1, 2), (n, n + 1), (n - 1, 2 * n), (255, 256), (0x01000000, 0x01000001), (1, LAST - 1),
                           (LAST - 2, LAST - 1)):
@@ -392,7 +392,7 @@ def add_fallbacks(cases):
 
 def add_same_slot(cases):
     """Both records name one slot: the active one's sector is used; if the active one is barred, the other still names the slot."""
-    for n in (2, 3, 9, 16):
+    for n in (2, 3, 8, 9, 16):
         for slot in (0, n - 1):
             low, high = slot + 1, slot + 1 + n
             cases.list(listed(GOOD[:n], GOOD[n]))
@@ -411,7 +411,7 @@ def add_same_slot(cases):
 
 def add_search(cases):
     """The last search: upward from slot 0, past slots that fail and past those that an invalid or aborted record names."""
-    for n in (2, 3, 9, 16):
+    for n in (2, 3, 8, 9, 16):
         for first in range(n):  # no record at all
             cases.list(listed(FAILING[:first] + GOOD[first:n]))
             cases.boot(ROLLBACK, (BLANK, BLANK), (0, first, None, 7), writes=())
@@ -737,7 +737,7 @@ def add_cut_apps(cases):
 def add_cut_sequences(cases):
     """Sequences with bytes of 0xFF: what is erased or not yet programmed of them makes no difference."""
     kept = record(6, VALID)
-    for n, p in itertools.product((9, 16), (0, 1)):
+    for n, p in itertools.product((8, 9, 16), (0, 1)):
         cases.list(listed(GOOD[:n]))
         order = 1 if p else -1
         for old, new in ((0x0000FFFF, 0x01FFFFFF), (0x00FFFFFF, 0x000001FF), (0x0100FFFF, 0x0100FFFF), (0xFEFFFFFF, 0x00FF00FF),

@@ -12,7 +12,7 @@ from cases import LAST, SECTOR, WORDS, GateCases, filler, total
 
 FLASH = 16_777_216
 IMAGES = 1 << 20  # the front of the flash that holds an image
-PARTS = GateCases.size
+PARTS = GateCases.size  # that which holds the parts
 ALIGN = 65536
 FACTORY = "factory"
 
@@ -239,7 +239,7 @@ def add_wrong_lists(cases):
     four = slots_of(4, factory=2)
     for words in ([], [0], four[:-1], four[:-2], four + [20], four + [20, 7 * ALIGN]):
         cases.list(words, right=False)
-    for subtype in (1, 15, 16 + 4, 16 + 5, 16 + 16, 33, LAST, LAST - 15, 0x10000010):
+    for subtype in (1, 15, 16 + 4, 16 + 5, 16 + 8, 32, 33, LAST, LAST - 15, 0x10000010):
         cases.list(changed(four, 0, subtype), right=False)
         cases.list(changed(four, 6, subtype), right=subtype == 20)  # in place of factory
         cases.list(four + entry(subtype, 9), right=subtype == 20)
@@ -298,7 +298,7 @@ def add_repeated_lists(cases):
 
 
 def add_random_lists(cases, rand):
-    edges = [0, 1, 15, 16, 17, 24, 25, 31, 32, SECTOR, SECTOR - 1, ALIGN, ALIGN + SECTOR, 2 * ALIGN, 3 * ALIGN, FLASH - ALIGN, FLASH, LAST]
+    edges = [0, 1, 15, 16, 17, 23, 24, 31, 32, SECTOR, SECTOR - 1, ALIGN, ALIGN + SECTOR, 2 * ALIGN, 3 * ALIGN, FLASH - ALIGN, FLASH, LAST]
     for _ in range(150):
         n = rand.randrange(2, 18)
         units = rand.sample(range(256), n + 1)
@@ -319,8 +319,8 @@ def add_parts(cases):
     mixed[2] = SECTOR  # slot 2
     for slot in (None, 0, 1, 2, 3):
         cases.part(mixed, slot, SECTOR if slot == 2 else ALIGN)
-    for n in (9, 16):
-        for slot in (None, 0, 1, n - 2, n - 1):
+    for n in (8, 9, 16):
+        for slot in (None, 0, 1, 2, 3, n - 2, n - 1):
             cases.part(slots_of(n, factory=n), slot, ALIGN)
         cases.part(slots_of(n), n - 1, ALIGN, (n + 2) * ALIGN)
         cases.part(slots_of(n), n, 0)

@@ -193,7 +193,7 @@ def add_records(cases):
     add_read(cases, BLANK)
     add_read(cases, bytes(32))
 
-    for slots in (0, 1, 2, 3, 9, 16, 17, LAST):
+    for slots in (0, 1, 2, 3, 8, 9, 16, 17, LAST):
         for sequence in (0, 1, 2, 4, 5, 6, 9, 10, 16, 17, LAST - 1, LAST):
             add_slot(cases, sequence, slots)
 

@@ -7,6 +7,7 @@ use ota_tests::generate::{plain_image, plain_node, two_sectors};
 use ota_tests::record::{self, State};
 use ota_tests::refusal::number_of;
 use ota_tests::{image, partition, settings, update};
+use std::time::Instant;
 
 const ROLLBACK: ffi::Settings = ffi::Settings { chip_id: 0, efuse: 0, rollback: 1, anti_rollback: 0 };
 
@@ -18,6 +19,7 @@ pub fn run() -> usize {
         boot_of_the_last_slot,
         next_slots,
         seventeen_slots,
+        a_long_list_is_not_walked,
         registers,
         images,
         segment_lengths,
@@ -166,6 +168,20 @@ fn seventeen_slots() {
         let (list, flash) = plain_node(&[Some(1); 16], factory);
         assert_eq!(ffi::check_list(&list, flash.len(), &mut [9; 2]), 0);
     }
+}
+
+/// A list 200,000 times as long as the longest that can be right is refused in less time than a thousand checks of that one take.
+fn a_long_list_is_not_walked() {
+    let (list, flash) = plain_node(&[Some(1); 16], Some(1));
+    let long = list.repeat(200_000);
+    let time = |list: &[u32], repeats: u32, number: u32| {
+        let start = Instant::now();
+        (0..repeats).for_each(|_| assert_eq!(ffi::check_list(list, flash.len(), &mut [9; 2]), number));
+        start.elapsed()
+    };
+    let baseline = time(&list, 1_000, 0);
+    let least = (0..5).map(|_| time(&long, 1, 1)).min().unwrap();
+    assert!(least < baseline, "{least:?} for a long list, {baseline:?} for a thousand of 51 words");
 }
 
 fn registers() {
