@@ -21,6 +21,9 @@ extern "C" {
 /* Returns the check word of a sequence. */
 uint32_t ota_check_word(uint32_t sequence);
 
+/* Puts the check word of each sequence in its place, for many of them faster than by a call each. Returns 0. */
+uint32_t ota_check_words(uint32_t *sequences, size_t count);
+
 /* Makes a record of a sequence, a label and a state word.
  * Returns 0 with the record, or 17 with 32 zero bytes where the fields make no good record. */
 uint32_t ota_make_record(uint32_t sequence, const uint8_t label[20], uint32_t state, uint8_t record[32]);

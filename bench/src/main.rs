@@ -1,9 +1,12 @@
-//! Times the proved library beside the model, an ordinary Rust implementation, and prints a Markdown table of the ratios.
+//! Times the proved library beside the model, an ordinary Rust implementation, or what else a row names, and prints a Markdown table
+//! of the ratios.
+
+mod words;
 
 use ota_tests::ffi::{self, Node};
 use ota_tests::generate::{plain_image, two_sectors};
 use ota_tests::partition::FLASH_MAX;
-use ota_tests::record::{check_word, make, State};
+use ota_tests::record::{make, State};
 use ota_tests::rng::Rng;
 use ota_tests::sector::SECTOR_SIZE;
 use ota_tests::settings::Settings;
@@ -23,9 +26,9 @@ fn main() {
     );
     println!("Buffers are warm: each side has done the work before it is timed, and nothing is cleared between runs.");
     println!();
-    println!("| Work | Library | Rust model | Ratio |");
+    println!("| Work | Library | Rust | Ratio |");
     println!("|---|---:|---:|---:|");
-    check_words();
+    words::rows();
     check_image("image check, 64 KiB", 64 << 10);
     check_image("image check, 1.5 MiB", 3 << 19);
     whole_rewrite();
@@ -72,15 +75,6 @@ fn readable(seconds: f64) -> String {
         s if s >= 1e-6 => format!("{:.2} µs", s * 1e6),
         s => format!("{:.0} ns", s * 1e9),
     }
-}
-
-fn check_words() {
-    let million = |word: fn(u32) -> u32| {
-        let sum = (1..=1_000_000).fold(0, |sum: u32, sequence| sum ^ word(black_box(sequence)));
-        black_box(sum);
-    };
-    assert!((1..=1_000).all(|sequence| ffi::check_word(sequence) == check_word(sequence)));
-    row("a million check words", || million(ffi::check_word), || million(check_word));
 }
 
 /// An image of exactly `length` bytes with a digest, one segment of random bytes.

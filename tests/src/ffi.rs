@@ -22,6 +22,7 @@ pub struct Node<'a> {
 mod c {
     extern "C" {
         pub fn ota_check_word(sequence: u32) -> u32;
+        pub fn ota_check_words(sequences: *mut u32, count: usize) -> u32;
         pub fn ota_make_record(sequence: u32, label: *const u8, state: u32, record: *mut u8) -> u32;
         pub fn ota_read_sector(sector: *const u8, len: usize, out: *mut u32) -> u32;
         pub fn ota_active(s0: *const u8, len0: usize, s1: *const u8, len1: usize, record: *mut u8) -> u32;
@@ -117,6 +118,10 @@ mod c {
 
 pub fn check_word(sequence: u32) -> u32 {
     unsafe { c::ota_check_word(sequence) }
+}
+
+pub fn check_words(sequences: &mut [u32]) -> u32 {
+    unsafe { c::ota_check_words(sequences.as_mut_ptr(), sequences.len()) }
 }
 
 pub fn make_record(sequence: u32, label: &[u8; 20], state: u32, record: &mut [u8; 32]) -> u32 {

@@ -1,15 +1,15 @@
 """The cases of the vectors: what a case holds, the buffers that it changes, and the lines that must be printed for it.
 
 The program `vectors` of the gate runs the kinds 0 to 10, through the library's crates and its C interface; the program `vectors` of
-tests/ runs 0, 7 and 11 to 15, through the static library. Both have a flash, zero at first, of 2,097,152 and of 4,194,304 bytes, and a
+tests/ runs 0, 7 and 11 to 16, through the static library. Both have a flash, zero at first, of 2,097,152 and of 4,194,304 bytes, and a
 list; the second also a buffer of 9,216 bytes of which otadata is the front.
 A case is 256 bytes; numbers are little-endian:
     0  kind, as below
     1  flags: 1 rollback, 2 anti-rollback, 4 lay the two records first
-    2  half word: chip id, number of the list's words, or number of the sector
+    2  half word: chip id, number of the list's words or of the sequences, or number of the sector
     4  word a, 8  word b, 12  word c
-   16  record of sector 0, 48  record of sector 1, 80  the record lent; or the bytes that are put into the flash; or the list's first 60
-       words: after them the gate's program has zeros, and the other repeats words 57 to 59
+   16  record of sector 0, 48  record of sector 1, 80  the record lent; or the bytes that are put into the flash; or up to 60
+       sequences; or the list's first 60 words: after them the gate's program has zeros, and the other repeats words 57 to 59
   124  start and step of sector 0's or the flash's filler, 126  those of sector 1's
 Byte i of what is filled is the front's, and after it the start, with step 1 plus 7 i + 13 (i / 256) + 29 (i / 65,536), mod 256. With step 2,
 in the gate's program alone, it is byte i % 4 of the number i - i % 4: the word at each multiple of 4 is its place.
@@ -33,6 +33,7 @@ Sector 1 is laid up to the buffer's end. The kinds:
    15 cuts: chip, register a, sector b, length c of the flash
                                                 for a run of cuts: its first and last, what the rewritten sector reads as, number and reply
                                                 of the next boot, and what the two sectors then read as
+   16 words: sequences                          number, and their check words
 A sum stands for bytes: they are the digits of a number to the base 257, taken modulo 4,294,967,291. The gate's program prints five numbers
 of each case, zeros after those that are named. The other prints what a sector reads as in hexadecimal, or `none`.
 Cuts does all stores of a rewrite on a copy, and boots on a copy of that before the first and after each.
@@ -45,7 +46,7 @@ BUFFER = 9216
 SECTOR = 4096
 LAST = 0xFFFFFFFF
 PRIME = 4_294_967_291
-NAMES = "flash check slot version raise read make list part factory image active stores rewrite boot cuts".split()
+NAMES = "flash check slot version raise read make list part factory image active stores rewrite boot cuts words".split()
 KINDS = {name: kind for kind, name in enumerate(NAMES)}
 FRONT = 108
 CASE = 256

@@ -8,7 +8,7 @@ import random
 import struct
 import zlib
 
-from cases import LAST, SECTOR, total
+from cases import LAST, SECTOR, WORDS, total
 
 STATES = NEW, PENDING, VALID, INVALID, ABORTED, UNDEFINED = [0, 1, 2, 3, 4, LAST]
 FF = b"\xff"
@@ -96,6 +96,11 @@ def add_check(cases, sequence):
     cases.say("check", check_word(sequence))
 
 
+def add_words(cases, sequences):
+    cases.add("words", half=len(sequences), body=struct.pack(f"<{len(sequences)}I", *sequences))
+    cases.say("words", 0, *map(check_word, sequences))
+
+
 def add_make(cases, sequence, label, state):
     number, rec = make(sequence, label, state)
     cases.add("make", sequence, state, 32, body=record(1, NEW, label))
@@ -165,11 +170,18 @@ def add_cut(cases, old, fill, rec, k):
     assert sector_reading(cases.sector(0)) in (None, reading(old), reading(rec)), "the law of the reading fails"
 
 
+def each_at_each_place(width):
+    """Each number of so many bits, at each of its places in a word."""
+    return [number << place for place in range(0, 32, width) for number in range(1 << width)]
+
+
 def add_records(cases):
     rand = random.Random(20261115)
     anything = lambda n: bytes(rand.randrange(256) for _ in range(n))
     assert (check_word(1), check_word(2)) == (0x4743989A, 0x55F63774)
     for sequence in [1, 2, 0, LAST, LAST - 1] + [1 << k for k in range(32)] + [rand.randrange(1 << 32) for _ in range(40)]:
+        add_check(cases, sequence)
+    for sequence in each_at_each_place(4):
         add_check(cases, sequence)
 
     for state in STATES + [5, 0x100, 0x01000000, LAST - 1]:
@@ -237,6 +249,17 @@ def add_rewrites(cases):
                 add_cut(cases, old, 0xA5, rec, k)
 
 
+def add_many_words(cases):
+    """The check words of many sequences: each byte at each place, and slices of every length up to what a case holds."""
+    rand = random.Random(20261116)
+    numbers = each_at_each_place(8)
+    for at in range(0, len(numbers), WORDS):
+        add_words(cases, numbers[at:at + WORDS])
+    for count in range(WORDS + 1):
+        add_words(cases, [rand.choice((1, 2, LAST - 1, LAST, rand.randrange(1 << 32))) for _ in range(count)])
+
+
 def add_sectors(cases):
+    add_many_words(cases)
     add_pairs(cases)
     add_rewrites(cases)

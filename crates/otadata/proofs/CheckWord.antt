@@ -1,28 +1,16 @@
--- Laws of the check word: how the register is fed bit by bit, and that no two 32-bit sequences have the same check word.
+-- Laws of the check word: feeding a sequence is stepping the register that holds it, w bits of a register at a time, and no two
+-- 32-bit sequences have the same check word.
 -- Assumes nothing.
 use Prim.Native.Nat.{ℕ, zero, suc, _+_, _-_, _*_, _/_, _%_, _^_, _<_, _≤_}
 use mathlib.Core.Path.{_≡_, refl, sym, ap, _∙_}
 use mathlib.Core.Logic.{_⊎_, inl, inr, ⊎-elim}
-use native.Mathlib.Nat.{add-assoc, two-pow-succ}
+use native.Mathlib.Nat.{add-assoc, zero-add, suc-add, mul-add, mod-lt, div-add-mod', two-pow-succ}
 use native.Mathlib.Omega.{arith}
 use lib.Arith.{bin-ind}
-use lib.Bits.{bitXor, differ, xor-step, xor-shr, xor-comm, xor-self, xor-zero-l, xor-zero-r, xor-lt}
+use lib.Pow.{pow-pos}
+use lib.Bits.{bitXor, differ, xor-step, xor-shr, xor-comm, xor-self, xor-zero-l, xor-zero-r, xor-shifted, xor-lt}
 use borrow.Author.Tests.{eq-eqb, ne-eqb}
 use Rattle.otadata.specs.Words.{polynomial, shift, feeds, checkWord}
-
--- the register bit by bit, as the loop counts
-pub feeds-more : (n r x : ℕ) → feeds (suc n) r x ≡ feeds n (shift (bitXor r (x % 2))) (x / 2)
-unfolding feeds
-feeds-more n r x = refl
-
-pub feeds-turn : (n i r x : ℕ) → i < n → feeds (n - i) r x ≡ feeds (n - (i + 1)) (shift (bitXor r (x % 2))) (x / 2)
-feeds-turn n i r x l =
-    let e : n - i ≡ suc (n - (i + 1)) = omega arith in
-    rw (e, feeds-more (n - (i + 1)) r x)
-
-pub feeds-end : (r x : ℕ) → feeds 0 r x ≡ r
-unfolding feeds
-feeds-end r x = refl
 
 -- xor digit by digit
 half : (a b : ℕ) → bitXor a b / 2 ≡ bitXor (a / 2) (b / 2)
@@ -51,7 +39,7 @@ parity-left a b c e = omega arith
 parity-right : (c a b : ℕ) → a % 2 ≡ b % 2 → (c + a) % 2 ≡ (c + b) % 2
 parity-right c a b e = omega arith
 
-pub xor-assoc : (a b c : ℕ) → bitXor (bitXor a b) c ≡ bitXor a (bitXor b c)
+xor-assoc : (a b c : ℕ) → bitXor (bitXor a b) c ≡ bitXor a (bitXor b c)
 xor-assoc a =
     bin-ind (λ (n : ℕ). (b c : ℕ) → bitXor (bitXor n b) c ≡ bitXor n (bitXor b c))
     (λ b c. rw (xor-zero-l b, xor-zero-l (bitXor b c)))
@@ -89,7 +77,7 @@ even-or-odd r = decide (r % 2)
     decide zero = inl refl
     decide (suc d) = inr (λ (e : suc d ≡ 0). omega arith)
 
-pub shift-lt : (r : ℕ) → r < 2 ^ 32 → shift r < 2 ^ 32
+shift-lt : (r : ℕ) → r < 2 ^ 32 → shift r < 2 ^ 32
 shift-lt r l =
     ⊎-elim
     (λ (e : r % 2 ≡ 0). rw (shift-even r e) (omega arith))
@@ -125,16 +113,25 @@ shift-inj a b la lb e =
     odd-is-one r n = omega arith
 
 -- n steps of the register
-shifts : ℕ → ℕ → ℕ
+pub shifts : ℕ → ℕ → ℕ
 shifts zero r = r
 shifts (suc n) r = shifts n (shift r)
+
+pub shifts-none : (r : ℕ) → shifts 0 r ≡ r
+unfolding shifts
+shifts-none r = refl
+
+pub shifts-more : (m n r : ℕ) → shifts (m + n) r ≡ shifts n (shifts m r)
+unfolding shifts
+shifts-more zero n r = ap (λ (k : ℕ). shifts k r) (zero-add n)
+shifts-more (suc m) n r = ap (λ (k : ℕ). shifts k r) (suc-add m n) ∙ shifts-more m n (shift r)
 
 shifts-inj : (n a b : ℕ) → a < 2 ^ 32 → b < 2 ^ 32 → shifts n a ≡ shifts n b → a ≡ b
 unfolding shifts
 shifts-inj zero a b la lb e = e
 shifts-inj (suc n) a b la lb e = shift-inj a b la lb (shifts-inj n (shift a) (shift b) (shift-lt a la) (shift-lt b lb) e)
 
-shifts-lt : (n r : ℕ) → r < 2 ^ 32 → shifts n r < 2 ^ 32
+pub shifts-lt : (n r : ℕ) → r < 2 ^ 32 → shifts n r < 2 ^ 32
 unfolding shifts
 shifts-lt zero r l = l
 shifts-lt (suc n) r l = shifts-lt n (shift r) (shift-lt r l)
@@ -164,12 +161,38 @@ fed (suc n) r x l =
     fed n (shift (bitXor r (x % 2))) (x / 2) (omega (arith, two-pow-succ n))
     ∙ ap (shifts n) (sym (shift-fed r x))
 
-feeds-shifts : (q : ℕ) → q < 2 ^ 32 → feeds 32 0 q ≡ shifts 32 q
-feeds-shifts q l = fed 32 0 q l ∙ ap (shifts 32) (xor-zero-l q)
+pub feeds-shifts : (n x : ℕ) → x < 2 ^ n → feeds n 0 x ≡ shifts n x
+feeds-shifts n x l = fed n 0 x l ∙ ap (shifts n) (xor-zero-l x)
+
+-- w steps: the low w bits of the register decide what comes in, and the others move down
+shifts-above : (w r h : ℕ) → shifts w (bitXor r (h * 2 ^ w)) ≡ bitXor (shifts w r) h
+unfolding shifts
+shifts-above zero r h = ap (bitXor r) (omega arith)
+shifts-above (suc w) r h =
+    let x = h * 2 ^ suc w in
+    let even : x % 2 ≡ 0 = omega (arith, twice h w) in
+    let half-x : x / 2 ≡ h * 2 ^ w = omega (arith, twice h w) in
+    ap (shifts w)
+    (shift-fed r x
+    ∙ ap (λ (y : ℕ). bitXor (shift (bitXor r y)) (x / 2)) even
+    ∙ ap (λ (y : ℕ). bitXor (shift y) (x / 2)) (xor-zero-r r)
+    ∙ ap (bitXor (shift r)) half-x)
+    ∙ shifts-above w (shift r) h
+  where
+    twice : (h w : ℕ) → h * 2 ^ suc w ≡ h * 2 ^ w + h * 2 ^ w
+    twice h w = ap (λ (x : ℕ). h * x) (two-pow-succ w) ∙ mul-add h (2 ^ w) (2 ^ w)
+
+pub shifts-by : (w r : ℕ) → shifts w r ≡ bitXor (r / 2 ^ w) (feeds w 0 (r % 2 ^ w))
+shifts-by w r =
+    let low : r % 2 ^ w < 2 ^ w = mod-lt r (pow-pos w) in
+    ap (shifts w) (sym (xor-comm (r % 2 ^ w) (r / 2 ^ w * 2 ^ w) ∙ xor-shifted (r / 2 ^ w) w (r % 2 ^ w) low ∙ div-add-mod' r (2 ^ w)))
+    ∙ shifts-above w (r % 2 ^ w) (r / 2 ^ w)
+    ∙ xor-comm (shifts w (r % 2 ^ w)) (r / 2 ^ w)
+    ∙ ap (bitXor (r / 2 ^ w)) (sym (feeds-shifts w (r % 2 ^ w) low))
 
 -- the check word is one-to-one on 32-bit sequences
 pub check-word-one-to-one : (p q : ℕ) → p < 2 ^ 32 → q < 2 ^ 32 → checkWord p ≡ checkWord q → p ≡ q
 unfolding checkWord
 check-word-one-to-one p q lp lq e =
     shifts-inj 32 p q lp lq
-    (omega (arith, feeds-shifts p lp, feeds-shifts q lq, shifts-lt 32 p lp, shifts-lt 32 q lq))
+    (omega (arith, feeds-shifts 32 p lp, feeds-shifts 32 q lq, shifts-lt 32 p lp, shifts-lt 32 q lq))

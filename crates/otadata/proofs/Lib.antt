@@ -6,5 +6,7 @@ pub mod RecordFields
 pub mod Filled
 pub mod Goodness
 pub mod Making
+pub mod Mapped
 pub mod Numbers
 pub mod RoundTrip
+pub mod Tables

@@ -1,7 +1,9 @@
 // The records of otadata: how they are read and made, and their check word.
+mod many;
 mod records;
 mod words;
 
+pub use many::check_words;
 pub use records::in_state;
 pub use records::make;
 pub use records::read;

@@ -2,32 +2,55 @@
 ghost use mathlib.Core.Path.{_≡_};
 ghost use Prim.Native.Nat.{_+_, _*_, _<_};
 ghost use lib.ListN.{getD};
-ghost use Rattle.otadata.specs.Words.{word, byteOf, shift as Words·shift, checkWord};
+ghost use Rattle.otadata.specs.Words.{word, byteOf, feeds, checkWord};
 use crate::Sequence;
 
-const POLYNOMIAL: u32 = 0xEDB8_8320;
+// Entry k is the register 0 after the four bits of k.
+const NIBBLES: [u32; 16] = [
+    0x0000_0000,
+    0x1DB7_1064,
+    0x3B6E_20C8,
+    0x26D9_30AC,
+    0x76DC_4190,
+    0x6B6B_51F4,
+    0x4DB2_6158,
+    0x5005_713C,
+    0xEDB8_8320,
+    0xF00F_9344,
+    0xD6D6_A3E8,
+    0xCB61_B38C,
+    0x9B64_C2B0,
+    0x86D3_D2D4,
+    0xA00A_E278,
+    0xBDBD_F21C,
+];
 
-// The check word of a sequence.
+// The check word of a sequence, four bits at a time, the lowest first.
 pub fn check_word(sequence: Sequence) -> u32
     ensures { λ r. ⌜ r ≡ checkWord (sequence .0) ⌝ }
 {
-    let mut register: u32 = 0;
-    let mut rest = sequence.0;
-    for _ in 0..32u32 {
-        register = shift(register ^ (rest % 2));
-        rest = rest / 2;
+    let mut register = sequence.0;
+    for _ in 0..8u32 {
+        register = (register / 16) ^ nibble_entry(register % 16);
     }
     0xFFFF_FFFF - register
 }
 
-// One step of the register.
-fn shift(register: u32) -> u32
-    ensures { λ r. ⌜ r ≡ Words·shift register ⌝ }
+// The table's entry for a nibble. Each entry is read at a place that the compiler knows, so that it keeps the table in read-only memory;
+// read at `nibble`, the table would first be stored onto the stack, in each call.
+fn nibble_entry(nibble: u32) -> u32
+    requires { ⌜ nibble < 16 ⌝ }
+    ensures { λ r. ⌜ r ≡ feeds 4 0 nibble ⌝ }
 {
-    if register % 2 == 0 {
-        return register / 2;
+    let table = NIBBLES;
+    let mut found: u32 = 0;
+    for i in 0..16u32 {
+        let entry = table[i as usize];
+        if i == nibble {
+            found = entry;
+        }
     }
-    (register / 2) ^ POLYNOMIAL
+    found
 }
 
 // The word of four bytes, the lowest first.

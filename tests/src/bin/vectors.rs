@@ -1,5 +1,5 @@
-//! Runs the vectors of sectors, boot and power cuts through the static library: reads the cases on standard input, 256 bytes each, and
-//! prints what `tests/vectors/cases.py` says of each.
+//! Runs the vectors of sectors, boot, power cuts and slices of check words through the static library: reads the cases on standard
+//! input, 256 bytes each, and prints what `tests/vectors/cases.py` says of each.
 
 use ota_tests::ffi::{self, Node, Settings};
 use std::fmt::Write as _;
@@ -59,6 +59,7 @@ fn main() {
             12 | 13 => lines += &rewrite(&case, &mut buffers),
             14 => lines += &boot(&case, &mut buffers),
             15 => lines += &cuts(&case, &buffers),
+            16 => lines += &words(&case),
             kind => panic!("no kind {kind}"),
         }
     }
@@ -129,6 +130,12 @@ fn cuts(case: &Case, buffers: &Buffers) -> String {
         let _ = writeln!(lines, "cuts {from} {to} {follows}");
         lines
     })
+}
+
+fn words(case: &Case) -> String {
+    let mut words: Vec<u32> = (0..case.half() as usize).map(|i| case.word(16 + 4 * i)).collect();
+    let number = ffi::check_words(&mut words);
+    words.iter().fold(format!("words {number}"), |line, word| format!("{line} {word}")) + "\n"
 }
 
 /// What the rewritten sector reads as, the reply of the next boot, and what the two sectors then read as.

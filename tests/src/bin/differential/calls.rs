@@ -18,6 +18,8 @@ pub fn to_be_met() -> Vec<String> {
     things.extend(State::ALL.iter().map(|state| format!("state_query: {state:?}")));
     things.extend(
         [
+            "check_words",
+            "check_words: no sequence",
             "check_list: with factory",
             "check_list: without factory",
             "read_sector: a record",
@@ -81,6 +83,7 @@ impl Run {
         self.check_list();
         self.check_image();
         self.node();
+        self.check_words();
     }
 
     /// The library has written nothing to the flash.
@@ -101,6 +104,19 @@ impl Run {
             self.tally.met(call);
             self.tally.calls += 1;
         }
+    }
+
+    /// A slice of sequences, of which every length from 0 to 16 comes up, and a longer one.
+    fn check_words(&mut self) {
+        let rng = &mut self.rng;
+        let count = rng.pick(&[0, 1, 2, 3, 4, 5, 6, 7, 8, 9, 10, 11, 12, 13, 14, 15, 16, 300]);
+        let sequences: Vec<u32> = (0..count).map(|_| generate::sequence(rng)).collect();
+        let mut words = sequences.clone();
+        let number = ffi::check_words(&mut words);
+        let expected = sequences.iter().map(|sequence| record::check_word(*sequence)).collect();
+        self.same("check_words", &sequences, (number, words), (0, expected));
+        self.tally.met(if count == 0 { "check_words: no sequence" } else { "check_words" });
+        self.tally.calls += 1;
     }
 
     fn make_record(&mut self) {

@@ -36,6 +36,9 @@ fn both<T: PartialEq + std::fmt::Debug>(library: T, model: T, expected: T) {
 fn records() {
     both(ffi::check_word(1), record::check_word(1), 0x4743_989A);
     both(ffi::check_word(2), record::check_word(2), 0x55F6_3774);
+    let mut words = [2, 1, 1];
+    assert_eq!((ffi::check_words(&mut words), words), (0, [0x55F6_3774, 0x4743_989A, 0x4743_989A]));
+    assert_eq!(ffi::check_words(&mut []), 0);
     let mut bytes = [0xFF; 32];
     bytes[..4].copy_from_slice(&[1, 0, 0, 0]);
     bytes[28..].copy_from_slice(&[0x9A, 0x98, 0x43, 0x47]);

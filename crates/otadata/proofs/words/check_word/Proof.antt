@@ -1,26 +1,24 @@
--- `otadata::words::check_word` meets its contract. The loop's invariant: feeding what is left of the sequence into the register gives
--- what feeding the whole sequence into 0 gives.
+-- `otadata::words::check_word` meets its contract: eight turns on four bits each.
 -- Assumes nothing.
-use Prim.Native.Nat.{ℕ, _≤_, _<_, _+_, _-_, _/_, _^_}
-use mathlib.Core.Path.{_≡_, sym, ap, _∙_}
+use Prim.Native.Nat.{_≤_, _-_}
+use mathlib.Core.Path.{refl}
 use native.Mathlib.Omega.{arith}
 use borrow.Author.Needs.{needs}
-use Rattle.otadata.specs.Words.{feeds, checkWord}
-use Rattle.otadata.proofs.CheckWord.{feeds-turn, feeds-end}
+use Rattle.otadata.proofs.Tables.{Walked, walked-none, walked-more, walked-lt, walked-whole}
 use Rattle.otadata.proofs.words.check_word.Statement.{statement}
 use Rattle.otadata.proofs.words.check_word.Tie as tie
 
 abbrev Inv-loop : tie.InvT-loop
-Inv-loop register₀ rest₀ counter₀ register rest counter = (counter ≤ 32) × (register < 2 ^ 32) × (feeds (32 - counter) register rest ≡ feeds 32 0 rest₀)
+Inv-loop register₀ counter₀ register counter = (counter ≤ 8) × Walked 4 8 register₀ counter register
 
 abbrev μ-loop : tie.MeasureT-loop
-μ-loop register₀ rest₀ counter₀ register rest counter = 32 - counter
+μ-loop register₀ counter₀ register counter = 8 - counter
 
 loop-holds : tie.Need-loop-holds Inv-loop μ-loop
-loop-holds c = search needs
+loop-holds c = (omega arith, walked-none 4 8 _ refl)
 
-shift-requires : tie.Need-shift-requires Inv-loop μ-loop
-shift-requires c κs = search needs
+nibble-entry-requires : tie.Need-nibble-entry-requires Inv-loop μ-loop
+nibble-entry-requires c κs = search needs
 
 add-counter : tie.Need-add-counter Inv-loop μ-loop
 add-counter c = omega arith
@@ -30,23 +28,21 @@ loop-less c = omega arith
 
 loop-again : tie.Need-loop-again Inv-loop μ-loop
 loop-again c =
-    let at = c .before .before .loop in (
+    let at = c .before .before .loop in
+    let entry = c .nibble-entry in (
       omega arith,
-      omega (arith, c .shift .ok),
-      ap (λ (r : ℕ). feeds (32 - (at .counter + 1)) r (at .rest / 2)) (c .shift .ensures)
-          ∙ sym (feeds-turn 32 (at .counter) (at .register) (at .rest) (c .before .loop-test .taken))
-          ∙ at .inv .2,
+      walked-more 4 8 _ (at .counter) (at .register) (entry .result) (omega arith) (entry .ensures) (at .inv .1),
     )
 
 sub-result : tie.Need-sub-result Inv-loop μ-loop
-sub-result c = omega arith
+sub-result c =
+    let at = c .before .loop in
+    omega (arith, walked-lt 4 8 _ (at .counter) (at .register) (omega arith) (search needs) (at .inv .1))
 
 returns : tie.Need-returns Inv-loop μ-loop
-unfolding checkWord
 returns c =
     let at = c .before .loop in
-    let e : 32 - at .counter ≡ 0 = omega arith in
-    ap (_-_ 4294967295) (sym (feeds-end (at .register) (at .rest)) ∙ ap (λ (n : ℕ). feeds n (at .register) (at .rest)) (sym e) ∙ at .inv .2)
+    walked-whole 4 8 _ (at .counter) (at .register) (omega arith) (search needs) (at .inv .1)
 
 pub check-word-spec : {M : Type 1} → statement M
 check-word-spec =
@@ -55,7 +51,7 @@ check-word-spec =
     Inv-loop
     μ-loop
     loop-holds
-    shift-requires
+    nibble-entry-requires
     add-counter
     loop-less
     loop-again
