@@ -28,8 +28,9 @@ uint32_t ota_check_words(uint32_t *sequences, size_t count);
  * Returns 0 with the record, or 17 with 32 zero bytes where the fields make no good record. */
 uint32_t ota_make_record(uint32_t sequence, const uint8_t label[20], uint32_t state, uint8_t record[32]);
 
-/* Reads the record of a sector. Returns 1 with out = {sequence, state word}, or 0 where it holds no good record. */
-uint32_t ota_read_sector(const uint8_t *sector, size_t sector_len, uint32_t out[2]);
+/* Reads the record of a sector. Returns 0 with out = {1, sequence, state word} of a good record. Else 0 with out = {why, 0, 0}, the first
+ * that applies: 2 blank, 32 bytes 0xFF; 3 bad sequence; 4 bad check word; 5 bad state. Or 2 where the size is wrong. */
+uint32_t ota_read_sector(const uint8_t *sector, size_t sector_len, uint32_t out[3]);
 
 /* Copies the active record of two sectors.
  * Returns 32 with the record, or 0 where none is active, and then `record` stays as it was. */

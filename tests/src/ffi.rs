@@ -128,7 +128,7 @@ pub fn make_record(sequence: u32, label: &[u8; 20], state: u32, record: &mut [u8
     unsafe { c::ota_make_record(sequence, label.as_ptr(), state, record.as_mut_ptr()) }
 }
 
-pub fn read_sector(sector: &[u8], out: &mut [u32; 2]) -> u32 {
+pub fn read_sector(sector: &[u8], out: &mut [u32; 3]) -> u32 {
     unsafe { c::ota_read_sector(sector.as_ptr(), sector.len(), out.as_mut_ptr()) }
 }
 

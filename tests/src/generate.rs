@@ -3,7 +3,7 @@
 use crate::ffi;
 use crate::image::*;
 use crate::partition::{FLASH_MAX, SLOTS_MAX, SLOTS_MIN};
-use crate::record::{raw_bytes, State, HIGHEST_SEQUENCE, LABEL_SIZE, RECORD_SIZE};
+use crate::record::{check_word, raw_bytes, State, HIGHEST_SEQUENCE, LABEL_SIZE, RECORD_SIZE};
 use crate::rng::Rng;
 use crate::sector::{self, OTADATA_SIZE, SECTOR_SIZE};
 
@@ -141,6 +141,107 @@ pub fn record(rng: &mut Rng, sequence: u32) -> [u8; RECORD_SIZE] {
         _ => {}
     }
     bytes
+}
+
+/// How a record is drawn for its reading alone.
+#[derive(Clone, Copy, PartialEq, Eq, Debug)]
+pub enum Drawn {
+    AllFf,
+    /// All FF but for one bit of a field.
+    OneBitCleared(Field),
+    AllZero,
+    /// With these fields wrong: a sequence of 0 or 0xFFFFFFFF, the check word, the state. It isn't all FF.
+    Faults {
+        sequence: Option<u32>,
+        check: bool,
+        state: bool,
+    },
+}
+
+/// The name of a record's field, and where it begins and ends.
+pub type Field = (&'static str, usize, usize);
+
+const FIELDS: [Field; 4] = [("sequence", 0, 4), ("label", 4, 24), ("state", 24, 28), ("check word", 28, 32)];
+
+impl Drawn {
+    /// All of them, with every combination of faults.
+    pub fn all() -> Vec<Drawn> {
+        let mut all = vec![Drawn::AllFf, Drawn::AllZero];
+        all.extend(FIELDS.map(Drawn::OneBitCleared));
+        for sequence in [None, Some(0), Some(0xFFFF_FFFF)] {
+            for check in [false, true] {
+                all.extend([false, true].map(|state| Drawn::Faults { sequence, check, state }));
+            }
+        }
+        all
+    }
+
+    pub fn name(self) -> String {
+        match self {
+            Drawn::AllFf => "all FF".into(),
+            Drawn::OneBitCleared((name, ..)) => format!("all FF but one bit of the {name}"),
+            Drawn::AllZero => "all zero".into(),
+            Drawn::Faults { sequence, check, state } => {
+                let sequence = sequence.map(|word| if word == 0 { "sequence 0" } else { "sequence FFFFFFFF" });
+                let faults = [sequence, check.then_some("check"), state.then_some("state")];
+                let faults: Vec<&str> = faults.into_iter().flatten().collect();
+                if faults.is_empty() {
+                    "no fault".into()
+                } else {
+                    format!("faults {}", faults.join("+"))
+                }
+            }
+        }
+    }
+
+    /// The name of the reading that it must have: the first fault decides.
+    pub fn reading(self) -> &'static str {
+        match self {
+            Drawn::AllFf => "blank",
+            // FF is the check word of sequence 0 alone.
+            Drawn::OneBitCleared(("sequence", ..)) => "bad check",
+            Drawn::OneBitCleared(_) | Drawn::AllZero | Drawn::Faults { sequence: Some(_), .. } => "bad sequence",
+            Drawn::Faults { check: true, .. } => "bad check",
+            Drawn::Faults { state: true, .. } => "bad state",
+            Drawn::Faults { .. } => "good",
+        }
+    }
+
+    pub fn bytes(self, rng: &mut Rng) -> [u8; RECORD_SIZE] {
+        let mut bytes = [0xFF; RECORD_SIZE];
+        match self {
+            Drawn::AllFf => {}
+            Drawn::OneBitCleared((_, begin, end)) => bytes[begin + rng.below(end - begin)] ^= 1 << rng.below(8),
+            Drawn::AllZero => bytes.fill(0),
+            Drawn::Faults { sequence: wrong, check, state } => {
+                let sequence = wrong.unwrap_or_else(|| sequence(rng).clamp(1, HIGHEST_SEQUENCE));
+                let state = if state { wrong_state(rng) } else { rng.pick(&State::ALL).word() };
+                bytes = raw_bytes(sequence, &label(rng), state);
+                if check {
+                    bytes[28..].copy_from_slice(&wrong_check(rng, sequence).to_le_bytes());
+                }
+                if bytes == [0xFF; RECORD_SIZE] {
+                    bytes[4 + rng.below(LABEL_SIZE)] = 0;
+                }
+            }
+        }
+        bytes
+    }
+}
+
+fn wrong_state(rng: &mut Rng) -> u32 {
+    rng.pick(&[5, 6, 0xFF, 0x100, 0x0100_0000, 0xFFFF_FF02, 0xFFFF_FFFE, 0x7FFF_FFFF, 0x8000_0000])
+}
+
+fn wrong_check(rng: &mut Rng, sequence: u32) -> u32 {
+    let right = check_word(sequence);
+    let (one_bit, any) = (right ^ 1 << rng.below(32), rng.word());
+    let word = rng.pick(&[one_bit, one_bit, any, 0, 0xFFFF_FFFF, !right, check_word(sequence ^ 1)]);
+    if word == right {
+        one_bit
+    } else {
+        word
+    }
 }
 
 /// A sector: a record, and after it erased bytes, or any.

@@ -1,4 +1,5 @@
-//! The otadata record: its check word, how it is made and read, when it is good and usable, and the slot that it names.
+//! The otadata record: its check word, how it is made and read, when it is good and usable, why it isn't good, and the slot
+//! that it names.
 
 use crate::refusal::Refusal;
 
@@ -45,14 +46,72 @@ pub struct Record {
     pub state: State,
 }
 
+/// What bytes read as: the record if it is good, else why it isn't (document 02, order 7). The size is tested first; of the
+/// other reasons the first that applies is given, in this order.
+#[derive(Clone, Copy, PartialEq, Eq, Debug)]
+pub enum Reading {
+    Good(Record),
+    /// 32 bytes 0xFF.
+    Blank,
+    BadSequence,
+    BadCheck,
+    BadState,
+    WrongSize,
+}
+
+impl Reading {
+    pub fn good(self) -> Option<Record> {
+        match self {
+            Reading::Good(record) => Some(record),
+            _ => None,
+        }
+    }
+
+    /// The number, and the three values: which reading it is, and the sequence and state word of a good record.
+    pub fn answer(self) -> (u32, [u32; 3]) {
+        match self {
+            Reading::Good(record) => (0, [1, record.sequence, record.state.word()]),
+            Reading::Blank => (0, [2, 0, 0]),
+            Reading::BadSequence => (0, [3, 0, 0]),
+            Reading::BadCheck => (0, [4, 0, 0]),
+            Reading::BadState => (0, [5, 0, 0]),
+            Reading::WrongSize => (Refusal::Size.number(), [0, 0, 0]),
+        }
+    }
+
+    pub fn name(self) -> &'static str {
+        match self {
+            Reading::Good(_) => "good",
+            Reading::Blank => "blank",
+            Reading::BadSequence => "bad sequence",
+            Reading::BadCheck => "bad check",
+            Reading::BadState => "bad state",
+            Reading::WrongSize => "wrong size",
+        }
+    }
+}
+
 impl Record {
-    /// Reads 32 bytes: the record if it is good.
-    pub fn read(bytes: &[u8; RECORD_SIZE]) -> Option<Record> {
+    /// Reads the bytes of a record.
+    pub fn read(bytes: &[u8]) -> Reading {
+        if bytes.len() != RECORD_SIZE {
+            return Reading::WrongSize;
+        }
+        if bytes.iter().all(|byte| *byte == 0xFF) {
+            return Reading::Blank;
+        }
         let sequence = word_at(bytes, 0);
-        let state = State::from_word(word_at(bytes, 24))?;
-        let good = (1..=HIGHEST_SEQUENCE).contains(&sequence) && word_at(bytes, 28) == check_word(sequence);
+        if !(1..=HIGHEST_SEQUENCE).contains(&sequence) {
+            return Reading::BadSequence;
+        }
+        if word_at(bytes, 28) != check_word(sequence) {
+            return Reading::BadCheck;
+        }
         let label = bytes[4..24].try_into().unwrap();
-        good.then_some(Record { sequence, label, state })
+        match State::from_word(word_at(bytes, 24)) {
+            Some(state) => Reading::Good(Record { sequence, label, state }),
+            None => Reading::BadState,
+        }
     }
 
     pub fn bytes(&self) -> [u8; RECORD_SIZE] {
@@ -82,7 +141,7 @@ impl Record {
 /// Makes a record from sequence, label and state word; refused where the result wouldn't be good.
 pub fn make(sequence: u32, label: &[u8; LABEL_SIZE], state: u32) -> Result<[u8; RECORD_SIZE], Refusal> {
     let bytes = raw_bytes(sequence, label, state);
-    Record::read(&bytes).map(|_| bytes).ok_or(Refusal::NotGood)
+    Record::read(&bytes).good().map(|_| bytes).ok_or(Refusal::NotGood)
 }
 
 /// The 32 bytes of any fields, with the right check word.
@@ -142,7 +201,7 @@ mod tests {
         bytes[..4].copy_from_slice(&[1, 0, 0, 0]);
         bytes[28..].copy_from_slice(&[0x9A, 0x98, 0x43, 0x47]);
         assert_eq!(make(1, &[0xFF; LABEL_SIZE], 0xFFFF_FFFF), Ok(bytes));
-        let record = Record::read(&bytes).unwrap();
+        let record = Record::read(&bytes).good().unwrap();
         assert_eq!(record.bytes(), bytes);
         assert_eq!((record.sequence, record.state, record.slot(2)), (1, State::Undefined, 0));
     }
@@ -160,8 +219,69 @@ mod tests {
         let mut bytes = make(7, &[0xFF; LABEL_SIZE], State::New.word()).unwrap();
         bytes[24] = 2;
         bytes[4] = b'x';
-        assert_eq!(Record::read(&bytes).unwrap().state, State::Valid);
+        assert_eq!(Record::read(&bytes).good().unwrap().state, State::Valid);
         bytes[28] ^= 1;
-        assert_eq!(Record::read(&bytes), None);
+        assert_eq!(Record::read(&bytes), Reading::BadCheck);
+    }
+
+    /// The first fault decides, whichever others there are.
+    #[test]
+    fn every_combination_of_faults() {
+        for (sequence, bad_sequence) in [(1, false), (HIGHEST_SEQUENCE, false), (0, true), (0xFFFF_FFFF, true)] {
+            for (check, bad_check) in [(0, false), (1, true), (0x8000_0000, true)] {
+                for (state, bad_state) in [(2, false), (0xFFFF_FFFF, false), (5, true), (0xFFFF_FFFE, true)] {
+                    for label in [[0xFF; LABEL_SIZE], [0x41; LABEL_SIZE]] {
+                        let mut bytes = raw_bytes(sequence, &label, state);
+                        bytes[28..].copy_from_slice(&(check_word(sequence) ^ check).to_le_bytes());
+                        let expected = match (bad_sequence, bad_check, bad_state) {
+                            (true, _, _) => Reading::BadSequence,
+                            (false, true, _) => Reading::BadCheck,
+                            (false, false, true) => Reading::BadState,
+                            (false, false, false) => {
+                                Reading::Good(Record { sequence, label, state: State::from_word(state).unwrap() })
+                            }
+                        };
+                        assert_eq!(Record::read(&bytes), expected, "{bytes:x?}");
+                    }
+                }
+            }
+        }
+    }
+
+    /// Where one bit of a blank record is cleared, its sequence is bad, or it is another one with a wrong check word.
+    #[test]
+    fn blank_and_one_bit_less() {
+        let blank = [0xFF; RECORD_SIZE];
+        assert_eq!(Record::read(&blank), Reading::Blank);
+        for bit in 0..8 * RECORD_SIZE {
+            let mut bytes = blank;
+            bytes[bit / 8] ^= 1 << (bit % 8);
+            let expected = if bit < 32 { Reading::BadCheck } else { Reading::BadSequence };
+            assert_eq!(Record::read(&bytes), expected, "bit {bit}");
+        }
+        assert_eq!(Record::read(&[0; RECORD_SIZE]), Reading::BadSequence);
+    }
+
+    #[test]
+    fn the_size_comes_first() {
+        for length in [0, 1, 28, 31, 33, 64] {
+            for byte in [0xFF, 0] {
+                assert_eq!(Record::read(&vec![byte; length]), Reading::WrongSize);
+            }
+        }
+        let record = make(1, &[0xFF; LABEL_SIZE], 2).unwrap();
+        assert_eq!(Record::read(&record[..31]), Reading::WrongSize);
+        assert_eq!(Record::read(&[&record[..], &[0xFF]].concat()), Reading::WrongSize);
+    }
+
+    #[test]
+    fn answers() {
+        let record = Record { sequence: 7, label: [0; LABEL_SIZE], state: State::Undefined };
+        assert_eq!(Record::read(&record.bytes()).answer(), (0, [1, 7, 0xFFFF_FFFF]));
+        let reasons = [Reading::Blank, Reading::BadSequence, Reading::BadCheck, Reading::BadState];
+        for (reason, value) in reasons.into_iter().zip(2..) {
+            assert_eq!((reason.answer(), reason.good()), ((0, [value, 0, 0]), None));
+        }
+        assert_eq!((Reading::WrongSize.answer(), Reading::WrongSize.good()), ((2, [0; 3]), None));
     }
 }

@@ -1,6 +1,6 @@
 //! The two otadata sectors: what a sector reads as, the active record, and a rewrite, whole or one store at a time.
 
-use crate::record::{Record, RECORD_SIZE};
+use crate::record::{Reading, Record, RECORD_SIZE};
 use crate::refusal::Refusal;
 
 pub const SECTOR_SIZE: usize = 4096;
@@ -8,18 +8,18 @@ pub const OTADATA_SIZE: usize = 2 * SECTOR_SIZE;
 /// The stores of a rewrite: each byte erased, then each byte of the record programmed.
 pub const STORES: usize = SECTOR_SIZE + RECORD_SIZE;
 
-/// What a sector reads as: its record if that is good. A sector of another size holds none.
-pub fn read(sector: &[u8]) -> Option<Record> {
+/// What a sector reads as: what its record does.
+pub fn read(sector: &[u8]) -> Reading {
     if sector.len() != SECTOR_SIZE {
-        return None;
+        return Reading::WrongSize;
     }
-    Record::read(sector[..RECORD_SIZE].try_into().unwrap())
+    Record::read(&sector[..RECORD_SIZE])
 }
 
-/// What both sectors of otadata read as, by sector number.
+/// The good records of both sectors of otadata, by sector number.
 pub fn readings(otadata: &[u8]) -> [Option<Record>; 2] {
     let (first, second) = otadata.split_at(SECTOR_SIZE);
-    [read(first), read(second)]
+    [read(first).good(), read(second).good()]
 }
 
 /// The sector that holds the active record: the usable one with the higher sequence, sector 0 on a tie.
@@ -35,7 +35,7 @@ pub fn active(readings: &[Option<Record>; 2]) -> Option<usize> {
 
 /// The active record's 32 bytes as a part of the sector that holds it, or an empty part.
 pub fn active_record<'a>(first: &'a [u8], second: &'a [u8]) -> &'a [u8] {
-    match active(&[read(first), read(second)]) {
+    match active(&[read(first).good(), read(second).good()]) {
         Some(0) => &first[..RECORD_SIZE],
         Some(_) => &second[..RECORD_SIZE],
         None => &[],
@@ -89,8 +89,33 @@ mod tests {
         assert_eq!(active_record(&five, &four), &four[..32]);
         assert_eq!(active_record(&blank, &five), &[] as &[u8]);
         assert_eq!(active_record(&four[..4095], &four), &four[..32]);
-        assert_eq!(active(&[read(&four), read(&four)]), Some(0));
-        assert_eq!(active(&[read(&four), read(&sector_of(6, State::Pending))]), Some(1));
+        let good = |sector: &[u8]| read(sector).good();
+        assert_eq!(active(&[good(&four), good(&four)]), Some(0));
+        assert_eq!(active(&[good(&four), good(&sector_of(6, State::Pending))]), Some(1));
+    }
+
+    /// The first 32 bytes decide, and before them the size.
+    #[test]
+    fn readings_of_sectors() {
+        for rest in [0xFF, 0x00] {
+            let mut sector = vec![rest; SECTOR_SIZE];
+            sector[..RECORD_SIZE].fill(0xFF);
+            assert_eq!(read(&sector), Reading::Blank);
+            sector[..RECORD_SIZE].copy_from_slice(&make(7, &[0x41; 20], State::New.word()).unwrap());
+            assert_eq!(read(&sector), Record::read(&sector[..RECORD_SIZE]));
+            assert_eq!(read(&sector).answer(), (0, [1, 7, 0]));
+            sector[24] = 5;
+            assert_eq!(read(&sector), Reading::BadState);
+            sector[28] ^= 1;
+            assert_eq!(read(&sector), Reading::BadCheck);
+            sector[..4].fill(0);
+            assert_eq!(read(&sector), Reading::BadSequence);
+        }
+        let four = sector_of(4, State::Valid);
+        let longer = [&four[..], &[0xFF]].concat();
+        for sector in [&four[..4095], &four[..32], &four[..0], &longer] {
+            assert_eq!(read(sector), Reading::WrongSize);
+        }
     }
 
     #[test]

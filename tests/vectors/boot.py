@@ -107,6 +107,13 @@ def reads_after(before, rec, k):
     return None
 
 
+def why_none(before, rec, k):
+    """Why it then reads as none, where it does. With none of the sequence in place it is blank, or a bad sequence if other bytes are there;
+    with a part of it, filled up with FF, it is another sequence with a check word not its own. So the state is never the reason."""
+    left = FF * k + before[k:32] if k < 32 else FF * min(32, 4128 - k) + rec[4128 - k:]
+    return "blank" if left == BLANK else "bad-sequence" if left.startswith(FF * 4) else "bad-check"
+
+
 def next_boot(p, read, untouched, places, flash, settings):
     """The reply of the next boot and what the two sectors read as after it, where sector p reads so and the other one is untouched.
     The untouched record is usable, not pending while rollback is on, and names an app that passes."""
@@ -129,9 +136,9 @@ def numbers(reply):
     return (reply.number, kind, reply.app if kind == 2 else 0, 2 if reply.sector is None else reply.sector, reply.register)
 
 
-def told(read):
-    """What a sector reads as."""
-    return record(read.sequence, read.state, read.label).hex() if read else "none"
+def told(read, why):
+    """What a sector reads as, or why there is none."""
+    return record(read.sequence, read.state, read.label).hex() if read else why
 
 
 def pair(seed):
@@ -231,18 +238,18 @@ class Boots:
         for k in range(4129):
             if k > 0:
                 put_store(sectors[p], rec, k - 1)
-            claimed = self.claimed(p, reads_after(before, rec, k), untouched, places, settings)
+            claimed = self.claimed(p, reads_after(before, rec, k), why_none(before, rec, k), untouched, places, settings)
             replied, after = self.model(bytes(sectors[0] + sectors[1]), settings)
             modelled = shown(sectors[p]), *numbers(replied), shown(after[:SECTOR]), shown(after[SECTOR:])
             if claimed != modelled:
                 sys.exit(f"the claim and the model of boot differ at cut {k}: {claimed} {modelled}")
             yield claimed
 
-    def claimed(self, p, read, untouched, places, settings):
-        """The numbers of what demand 3 claims, where sector p reads so."""
+    def claimed(self, p, read, why, untouched, places, settings):
+        """The numbers of what demand 3 claims, where sector p reads so; boot leaves it alone where it reads as none."""
         reply, left = next_boot(p, read, untouched, places, self.flash, settings)
         assert usable(left[reply.sector]) and passes(places, self.flash, settings, reply.app)
-        return told(read), *numbers(reply), told(left[0]), told(left[1])
+        return told(read, why), *numbers(reply), told(left[0], why), told(left[1], why)
 
 
 # ---- the flash: an image at the start of each unit of 65,536 bytes

@@ -19,7 +19,9 @@ Sector 1 is laid up to the buffer's end. The kinds:
     2 slot: sequence a, slots b                 the slot
     3 version: register a                       the version
     4 raise: register a, version b              the register
-    5 read: c bytes at 16                       the record that they read as, made again: number, sum
+    5 read: c bytes at 16                       number, 2 where c is not 32; 1 good, 2 blank, 3 bad sequence, 4 bad check word or 5 bad
+                                                state, 0 with the number 2; of a good record the sequence, the state word, and the sum
+                                                of the record made again from what was read, else zeros
     6 make: sequence a, state word b, label of the record at 16      number, sum of the record
     7 list: words, length a + 2^32 b of the flash                    number, slots, 1 if factory is listed
     8 part: slot a, length c of the flash       length and sum of the slot's part, and its first word, which is its place in a flash of step 2
@@ -35,7 +37,8 @@ Sector 1 is laid up to the buffer's end. The kinds:
                                                 of the next boot, and what the two sectors then read as
    16 words: sequences                          number, and their check words
 A sum stands for bytes: they are the digits of a number to the base 257, taken modulo 4,294,967,291. The gate's program prints five numbers
-of each case, zeros after those that are named. The other prints what a sector reads as in hexadecimal, or `none`.
+of each case, zeros after those that are named. The other prints what a sector reads as: a good record in hexadecimal, or why there is
+none, `blank`, `bad-sequence`, `bad-check`, `bad-state`, the first that applies, or `wrong-size`. Where no record is active it prints `none`.
 Cuts does all stores of a rewrite on a copy, and boots on a copy of that before the first and after each.
 """
 import functools

@@ -1,9 +1,10 @@
-"""Cases of records and sectors, and document 01's rules of them.
+"""Cases of records and sectors, and document 01's rules of them, with those of document 02's order 7.
 
 Independent of the Rattle code: the check word is zlib's CRC-32, and a rewrite is a list of stores.
 """
 import collections
 import functools
+import itertools
 import random
 import struct
 import zlib
@@ -14,6 +15,8 @@ STATES = NEW, PENDING, VALID, INVALID, ABORTED, UNDEFINED = [0, 1, 2, 3, 4, LAST
 FF = b"\xff"
 BLANK = FF * 32
 LABEL = bytes(range(65, 85))
+# why a sector holds no good record, by the code of the reader's answer; 0 comes with the number 2
+REASONS = {0: "wrong-size", 2: "blank", 3: "bad-sequence", 4: "bad-check", 5: "bad-state"}
 
 Reading = collections.namedtuple("Reading", "sequence label state")
 
@@ -39,6 +42,19 @@ def reading(rec):
     return None
 
 
+@functools.lru_cache(None)
+def answer(rec):
+    """The reader's answer for the bytes of a record: number, code, and the sequence and state word of a good one, else zeros. The code is
+    that of the first reason that applies; where none does, the record is good."""
+    if len(rec) != 32:
+        return 2, 0, 0, 0
+    sequence, _, state, check = struct.unpack("<I20sII", rec)
+    applies = {2: rec == BLANK, 3: sequence in (0, LAST), 4: check != check_word(sequence), 5: state not in STATES}
+    code = next((code for code in applies if applies[code]), 1)
+    assert (code == 1) == (reading(rec) is not None)
+    return (0, code, sequence, state) if code == 1 else (0, code, 0, 0)
+
+
 def make(sequence, label, state):
     rec = record(sequence, state, label)
     return (0, rec) if reading(rec) else (17, bytes(32))
@@ -50,6 +66,10 @@ def named(sequence, slots):
 
 def sector_reading(sector):
     return reading(bytes(sector[:32])) if len(sector) == SECTOR else None
+
+
+def sector_answer(sector):
+    return answer(bytes(sector[:32])) if len(sector) == SECTOR else (2, 0, 0, 0)
 
 
 def usable(read):
@@ -107,10 +127,13 @@ def add_make(cases, sequence, label, state):
     cases.say("make", number, total(rec))
 
 
-def add_read(cases, rec, length=32):
+def add_read(cases, rec, length=32, want=None):
+    """What is wanted is the code."""
     cases.add("read", c=length, body=rec)
     lent = (rec + bytes(64))[:length]
-    cases.say("read", *((0, total(lent)) if reading(lent) else (17, 0)))
+    found = answer(lent)
+    assert want is None or found[1] == want, (lent, found, want)
+    cases.say("read", *found, total(lent) if found[1] == 1 else 0)
 
 
 def add_slot(cases, sequence, slots):
@@ -120,8 +143,9 @@ def add_slot(cases, sequence, slots):
 
 
 def shown(sector):
-    """What a sector reads as."""
-    return bytes(sector[:32]).hex() if sector_reading(sector) else "none"
+    """What a sector reads as, or why it holds no good record."""
+    code = sector_answer(sector)[1]
+    return bytes(sector[:32]).hex() if code == 1 else REASONS[code]
 
 
 def add_active(cases, recs, lengths=(SECTOR, SECTOR), fills=(0, 0xFF)):
@@ -170,6 +194,22 @@ def add_cut(cases, old, fill, rec, k):
     assert sector_reading(cases.sector(0)) in (None, reading(old), reading(rec)), "the law of the reading fails"
 
 
+def miswritten(sequence, state, check, label=LABEL):
+    """A record whose check word has these bits wrong."""
+    return record(sequence, state, label)[:28] + struct.pack("<I", check_word(sequence) ^ check)
+
+
+def with_faults():
+    """Records with every combination of a wrong sequence, check word and state, each by its faults, and the code of the first of them."""
+    sequences = {"": 7, "sequence 0": 0, "sequence -1": LAST}
+    checks = {"": 0, "check": 0x40}
+    states = {"": VALID, "state": 5}
+    for faults in itertools.product(sequences, checks, states):
+        sequence, check, state = faults
+        code = next((code for code, fault in zip((3, 4, 5), faults) if fault), 1)
+        yield " ".join(filter(None, faults)), miswritten(sequences[sequence], states[state], checks[check]), code
+
+
 def each_at_each_place(width):
     """Each number of so many bits, at each of its places in a word."""
     return [number << place for place in range(0, 32, width) for number in range(1 << width)]
@@ -202,12 +242,34 @@ def add_records(cases):
             add_read(cases, whole[:i] + bytes([whole[i] ^ bit]) + whole[i + 1:])
     for length in (0, 1, 31, 32, 33, 64):
         add_read(cases, whole, length)
-    add_read(cases, BLANK)
-    add_read(cases, bytes(32))
+    add_read(cases, BLANK, want=2)
+    add_read(cases, bytes(32), want=3)
+    add_answers(cases)
 
     for slots in (0, 1, 2, 3, 8, 9, 16, 17, LAST):
         for sequence in (0, 1, 2, 4, 5, 6, 9, 10, 16, 17, LAST - 1, LAST):
             add_slot(cases, sequence, slots)
+
+
+def add_answers(cases):
+    """Each reason, and the first of several."""
+    for i in range(32):  # one bit less than blank: a good sequence with a wrong check word, or a bad sequence
+        for bit in (1, 0x80):
+            add_read(cases, BLANK[:i] + bytes([0xFF ^ bit]) + BLANK[i + 1:], want=4 if i < 4 else 3)
+    for _, rec, code in with_faults():
+        add_read(cases, rec, want=code)
+        for length in (31, 33):
+            add_read(cases, rec, length, 0)
+    for sequence, code in ((1, 4), (2, 4), (0x01020304, 4), (LAST - 1, 4), (0, 3), (LAST, 3)):
+        for state in (NEW, UNDEFINED, 5, LAST - 1, 0x01000000):
+            for label in (FF * 20, bytes(20)):
+                add_read(cases, record(sequence, state, label), want=3 if code == 3 else 1 if state in STATES else 5)
+                for check in (1, 0x80000000):
+                    add_read(cases, miswritten(sequence, state, check, label), want=code)
+    for sequence in (0, 1, LAST - 1):  # erased but for the sequence: its check word is FF for 0 alone
+        add_read(cases, struct.pack("<I", sequence) + FF * 28, want=4 if sequence else 3)
+    for length in (0, 1, 31, 33, 64):
+        add_read(cases, FF * 64, length, 0)
 
 
 def add_pairs(cases):
@@ -225,6 +287,19 @@ def add_pairs(cases):
     two = (record(5, VALID, LABEL), record(6, VALID, LABEL))
     for lengths in ((4095, 4096), (4096, 4097), (0, 4096), (4096, 32), (31, 33), (5000, 5000)):
         add_active(cases, two, lengths)
+
+
+def add_reasons(cases):
+    """What two sectors read as: each combination of faults with each, also in a sector of another size, and what stands after the record
+    makes no difference."""
+    recs = [rec for _, rec, _ in with_faults()] + [BLANK, bytes(32), FF * 31 + b"\xfe", b"\xfe" + FF * 31]
+    assert {answer(rec)[1] for rec in recs} == {1, 2, 3, 4, 5}
+    for pair in itertools.product(recs, recs):
+        add_active(cases, pair)
+    for rec in recs:
+        for lengths in ((SECTOR, SECTOR - 1), (SECTOR + 1, SECTOR), (32, SECTOR), (SECTOR, 0)):
+            add_active(cases, (rec, rec), lengths)
+        add_active(cases, (rec, rec), fills=(0xFF, 0))
 
 
 def add_rewrites(cases):
@@ -262,4 +337,5 @@ def add_many_words(cases):
 def add_sectors(cases):
     add_many_words(cases)
     add_pairs(cases)
+    add_reasons(cases)
     add_rewrites(cases)

@@ -1,7 +1,7 @@
 -- What a choice of boot came from: a record that is usable, and an app that passes.
 -- Assumes nothing.
 use Prim.Native.Nat.{ℕ, zero, suc, _+_, _-_, _<_}
-use mathlib.Core.Path.{_≡_, refl, ap}
+use mathlib.Core.Path.{_≡_, refl, sym, ap, subst}
 use mathlib.Core.Bool.{Bool, true, false, cond}
 use mathlib.Core.List.{List}
 use native.Mathlib.Omega.{arith}
@@ -9,10 +9,10 @@ use lib.Dec.{eqb}
 use lib.ListN.{getD}
 use Rattle.otadata.specs.declared.Slot.{Slot}
 use Rattle.otadata.specs.declared.Verdict.{Verdict}
-use Rattle.otadata.specs.declared.Verdict.the-variants.{None as NotGood, Good}
 use Rattle.otadata.specs.declared.Reading.{Reading}
 use Rattle.sectors.specs.declared.Holder.the-variants.{Sector}
 use Rattle.otadata.specs.Records.{usable, noReading}
+use Rattle.otadata.proofs.Verdicts.{not-good-has, by-verdict}
 use Rattle.sectors.specs.Sectors.{higherOf, active}
 use Rattle.partitions.specs.declared.App.the-variants.{Factory as FactoryApp, OtaSlot}
 use Rattle.partitions.specs.PartitionList.{slotCount, factorySubtype, timesListed}
@@ -70,10 +70,12 @@ module _ (list flash : List ℕ) (settings : Settings) (rs : List Reading) where
   tested-sound true s = s refl
 
   verdict-sound : (k : ℕ) → k < 2 → usable (getD rs k noReading) ≡ true → (v : Verdict) → Sounds (throughVerdict list flash settings k v)
-  verdict-sound k l u NotGood = nothing
-  verdict-sound k l u (Good q state) =
+  verdict-sound k l u =
+      by-verdict (λ (v : Verdict). Sounds (throughVerdict list flash settings k v))
+      (λ v n. subst Sounds (sym (not-good-has _ Nothing v n)) nothing)
+      (λ q state.
       passing-sound (Through k (namedSlot list q)) (passing list flash settings (OtaSlot (namedSlot list q)))
-      (λ (facts : Facts) (p : passing list flash settings (OtaSlot (namedSlot list q)) ≡ Yes facts). through l u p)
+      (λ (facts : Facts) (p : passing list flash settings (OtaSlot (namedSlot list q)) ≡ Yes facts). through l u p))
 
   record-sound : (k : ℕ) → k < 2 → Sounds (throughRecord list flash settings k (getD rs k noReading))
   unfolding throughRecord

@@ -9,14 +9,14 @@ use native.Mathlib.Omega.{arith}
 use lib.ListN.{getD}
 use Rattle.otadata.specs.declared.Sequence.{Sequence}
 use Rattle.otadata.specs.declared.State.{State}
-use Rattle.otadata.specs.declared.Verdict.{Verdict}
-use Rattle.otadata.specs.declared.Verdict.the-variants.{None as NotGood, Good}
+use Rattle.otadata.specs.declared.Verdict.the-variants.{Good}
 use Rattle.otadata.specs.declared.Reading.{Reading}
 use Rattle.sectors.specs.declared.Holder.{Holder}
 use Rattle.sectors.specs.declared.Holder.the-variants.{None, Sector}
 use Rattle.otadata.specs.Records.{usableState, usableVerdict, usable, noReading}
 use Rattle.sectors.specs.Sectors.{active}
 use Rattle.otadata.proofs.Booleans.{true-is-not-false}
+use Rattle.otadata.proofs.Verdicts.{good-so}
 use Rattle.partitions.specs.declared.App.the-variants.{OtaSlot}
 use Rattle.app_image.specs.declared.Facts.{Facts}
 use Rattle.boot_choice.specs.declared.Settings.{Settings}
@@ -47,16 +47,17 @@ module _ (rs : List Reading) where
           (λ (other : k ≡ 1 - p). inl (e ∙ ap Sector other))
           (this-or-other p l k (active-below-two rs k e))
 
-  usable-of : (k : ℕ) (v : Verdict) → getD rs k noReading .verdict ≡ v → usableVerdict v ≡ true → (q : Sequence) × UsableOf rs k q
-  usable-of k NotGood e u = absurd (true-is-not-false false u refl)
-  usable-of k (Good q state) e u = (q, record { state = state; holds = e; usable = u })
+  usable-of : (k : ℕ) → usable (getD rs k noReading) ≡ true → (q : Sequence) × UsableOf rs k q
+  usable-of k u =
+      let g = good-so (λ q s. usableState s) (getD rs k noReading .verdict) u in
+      (g .sequence, record { state = g .state; holds = g .is; usable = g .holds })
 
   -- where the other sector's record is usable, that is the active one, or the one of sector p is usable too, and active
   pub active-or : (p : ℕ) → p < 2 → (u : Sequence) → UsableOf rs (1 - p) u
       → (active rs ≡ Sector (1 - p)) ⊎ ((active rs ≡ Sector p) × ((q : Sequence) × UsableOf rs p q))
   active-or p l u other =
       ⊎-elim inl
-      (λ (own : (active rs ≡ Sector p) × (usable (getD rs p noReading) ≡ true)). inr (own .0, usable-of p _ refl (own .1)))
+      (λ (own : (active rs ≡ Sector p) × (usable (getD rs p noReading) ≡ true)). inr (own .0, usable-of p (own .1)))
       (active-by p l (ap usableVerdict (other .holds) ∙ other .usable))
 
 -- ---- the choice

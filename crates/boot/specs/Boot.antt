@@ -6,12 +6,10 @@ use mathlib.Core.List.{List, [], _∷_, _++_}
 use lib.ListN.{length}
 use Rattle.otadata.specs.Answers.{Answer, Answered, answers, Outcome as Answers·Outcome, outcome}
 use Rattle.otadata.specs.declared.State.the-variants.{New, Pending, Aborted}
-use Rattle.otadata.specs.declared.Verdict.{Verdict}
-use Rattle.otadata.specs.declared.Verdict.the-variants.{None as NotGood, Good}
 use Rattle.otadata.specs.declared.Reading.{Reading}
 use Rattle.sectors.specs.declared.Holder.{Holder}
 use Rattle.sectors.specs.declared.Holder.the-variants.{None, Sector}
-use Rattle.otadata.specs.Records.{inState}
+use Rattle.otadata.specs.Records.{goodVerdict, inState}
 use Rattle.sectors.specs.Sectors.{sectorReading, sectorAt, readingsOf, withState}
 use Rattle.efuse.specs.Register.{width, raised}
 use Rattle.partitions.specs.declared.App.{App}
@@ -80,10 +78,6 @@ awaiting settings (Sector k) o =
     cond (settings .rollback && inState New (sectorReading (sectorAt k o) .verdict)) (withState Pending k o) o
 
 -- ---- step 4
-
-abbrev pub goodVerdict : Verdict → Bool
-goodVerdict NotGood = false
-goodVerdict (Good q state) = true
 
 -- a sector holds a good record
 unfoldable pub anyGood : List Reading → Bool

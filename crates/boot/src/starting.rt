@@ -2,8 +2,9 @@
 ghost use mathlib.Core.Path.{_≡_};
 ghost use lib.ListN.{length};
 ghost use Rattle.otadata.specs.Answers.{viewed, outcome};
+ghost use Rattle.otadata.specs.Records.{goodVerdict};
 ghost use Rattle.boot_choice.specs.declared.Choice.the-variants.{Found};
-ghost use Rattle.boot.specs.Boot.{view, marked, usedSector, goodVerdict, anyGood, registerAfter, replyTo, fromMarks, boot as Boot·boot};
+ghost use Rattle.boot.specs.Boot.{view, marked, usedSector, anyGood, registerAfter, replyTo, fromMarks, boot as Boot·boot};
 use crate::NOTHING_BOOTABLE;
 use crate::Refusal;
 use crate::Reply;
@@ -115,7 +116,7 @@ fn good(reading: Reading) -> bool
 {
     let verdict = reading.verdict;
     match verdict {
-        Verdict::None => false,
         Verdict::Good(_, _) => true,
+        _ => false,
     }
 }

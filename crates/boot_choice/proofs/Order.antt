@@ -9,9 +9,9 @@ use lib.Dec.{eqb}
 use lib.ListN.{length}
 use Rattle.otadata.specs.Answers.{Answer, Answered, viewed}
 use Rattle.otadata.proofs.Answers.{reply-of}
+use Rattle.otadata.proofs.Verdicts.{not-good-has, by-verdict}
 use Rattle.otadata.specs.declared.Slot.{Slot}
 use Rattle.otadata.specs.declared.Verdict.{Verdict}
-use Rattle.otadata.specs.declared.Verdict.the-variants.{None as NotGood, Good}
 use Rattle.otadata.specs.declared.Reading.{Reading}
 use Rattle.sectors.specs.declared.Holder.{Holder}
 use Rattle.sectors.specs.declared.Holder.the-variants.{None, Sector}
@@ -77,8 +77,11 @@ module _ (list flash : List ℕ) (settings : Settings) (wrong : right list (leng
   none-passes app = simp (no-image app)
 
   nothing-named : (k : ℕ) (v : Verdict) → throughVerdict list flash settings k v ≡ Nothing
-  nothing-named k NotGood = refl
-  nothing-named k (Good q state) = simp none-passes
+  nothing-named k v =
+      by-verdict (λ (x : Verdict). throughVerdict list flash settings k x ≡ Nothing)
+      (λ x o. not-good-has _ _ x o)
+      (λ q state. simp none-passes)
+      v
 
   nothing-through : (k : ℕ) (r : Reading) → throughRecord list flash settings k r ≡ Nothing
   unfolding throughRecord

@@ -8,11 +8,10 @@ use lib.ListN.{getD}
 use Rattle.otadata.specs.declared.Slot.{Slot}
 use Rattle.otadata.specs.declared.Sequence.{Sequence}
 use Rattle.otadata.specs.declared.Verdict.{Verdict}
-use Rattle.otadata.specs.declared.Verdict.the-variants.{None as NotGood, Good}
 use Rattle.otadata.specs.declared.Reading.{Reading}
 use Rattle.sectors.specs.declared.Holder.{Holder}
 use Rattle.sectors.specs.declared.Holder.the-variants.{None, Sector}
-use Rattle.otadata.specs.Records.{usableState, usable, namesSlot, noReading}
+use Rattle.otadata.specs.Records.{noReading, ifGood, usableState, usable, namesSlot}
 use Rattle.sectors.specs.Sectors.{active}
 use Rattle.efuse.specs.declared.SecureVersion.{SecureVersion}
 use Rattle.efuse.specs.Register.{width, version}
@@ -79,9 +78,8 @@ namedSlot list q = namesSlot (slotCount list) q
 
 -- the slot that the record of sector k names
 abbrev pub throughVerdict : List ℕ → List ℕ → Settings → ℕ → Verdict → Choice
-throughVerdict list flash settings k NotGood = Nothing
-throughVerdict list flash settings k (Good q state) =
-    ifPasses (Through k (namedSlot list q)) (passing list flash settings (OtaSlot (namedSlot list q)))
+throughVerdict list flash settings k v =
+    ifGood (λ q state. ifPasses (Through k (namedSlot list q)) (passing list flash settings (OtaSlot (namedSlot list q)))) Nothing v
 
 -- the same, of a usable record only
 unfoldable pub throughRecord : List ℕ → List ℕ → Settings → ℕ → Reading → Choice
@@ -107,8 +105,7 @@ factory list flash settings =
 
 -- an invalid or aborted record names slot s, with n slots
 abbrev pub verdictBars : ℕ → Slot → Verdict → Bool
-verdictBars n s NotGood = false
-verdictBars n s (Good q state) = not (usableState state) && eqb (namesSlot n q .0) (s .0)
+verdictBars n s v = ifGood (λ q state. not (usableState state) && eqb (namesSlot n q .0) (s .0)) false v
 
 -- of one of the two records it is so
 abbrev pub ofEither : (Verdict → Bool) → List Reading → Bool

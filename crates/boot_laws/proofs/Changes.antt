@@ -6,20 +6,22 @@ use mathlib.Core.Bool.{Bool, true, false, cond, _&&_}
 use mathlib.Core.List.{List}
 use mathlib.Core.Logic.{_⊎_, inl, inr, ⊎-elim}
 use native.Mathlib.Omega.{arith}
+use lib.Dec.{eqb}
 use lib.ListN.{length, getD}
 use borrow.Author.Tests.{eqb-true}
 use Rattle.otadata.specs.declared.Sequence.{Sequence}
 use Rattle.otadata.specs.declared.State.{State}
 use Rattle.otadata.specs.declared.State.the-variants.{New, Pending, Aborted}
 use Rattle.otadata.specs.declared.Verdict.{Verdict}
-use Rattle.otadata.specs.declared.Verdict.the-variants.{None as NotGood, Good}
+use Rattle.otadata.specs.declared.Verdict.the-variants.{Good}
 use Rattle.otadata.specs.declared.Reading.{Reading}
 use Rattle.sectors.specs.declared.Holder.{Holder}
 use Rattle.sectors.specs.declared.Holder.the-variants.{None, Sector}
-use Rattle.otadata.specs.Records.{stateOf, usableVerdict, usable, inState, noReading}
+use Rattle.otadata.specs.Records.{stateWord, stateOf, usableVerdict, usable, inState, noReading}
 use Rattle.sectors.specs.Sectors.{sectorReading, active, sectorAt, readingsOf, withState}
-use Rattle.otadata.proofs.Booleans.{true-is-not-false, both}
-use Rattle.sectors.proofs.Restating.{state-of-word}
+use Rattle.otadata.proofs.Booleans.{both}
+use Rattle.otadata.proofs.States.{state-of-word}
+use Rattle.otadata.proofs.Verdicts.{good-so}
 use Rattle.boot_choice.specs.declared.Settings.{Settings}
 use Rattle.boot_choice.specs.declared.Choice.{Choice}
 use Rattle.boot.specs.Boot.{markedAt, marked, usedSector, awaiting}
@@ -47,8 +49,9 @@ same-good e = (cc, cc)
 
 -- a record that passes the test is good, and in that state
 in-state : (state : State) (v : Verdict) → inState state v ≡ true → (q : Sequence) × (v ≡ Good q state)
-in-state state NotGood e = absurd (true-is-not-false false e refl)
-in-state state (Good q s) e = (q, ap (Good q) (sym (state-of-word s) ∙ ap stateOf (eqb-true _ _ e) ∙ state-of-word state))
+in-state state v e =
+    let g = good-so (λ q its. eqb (stateWord its) (stateWord state)) v e in
+    (g .sequence, g .is ∙ ap (Good (g .sequence)) (sym (state-of-word (g .state)) ∙ ap stateOf (eqb-true _ _ (g .holds)) ∙ state-of-word state))
 
 -- with rollback on, the record of the sector is in that state
 abbrev due : Settings → State → List ℕ → Bool

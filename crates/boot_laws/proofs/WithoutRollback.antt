@@ -7,19 +7,21 @@ use lib.ListN.{getD, List·getD-map}
 use Rattle.otadata.specs.declared.Slot.{Slot}
 use Rattle.otadata.specs.declared.State.{State}
 use Rattle.otadata.specs.declared.State.the-variants.{New, Pending, Valid, Invalid, Aborted, Undefined}
+use Rattle.otadata.specs.declared.Sequence.{Sequence}
 use Rattle.otadata.specs.declared.Verdict.{Verdict}
-use Rattle.otadata.specs.declared.Verdict.the-variants.{None as NotGood, Good}
+use Rattle.otadata.specs.declared.Verdict.the-variants.{Good}
 use Rattle.otadata.specs.declared.Reading.{Reading}
 use Rattle.sectors.specs.declared.Holder.{Holder}
 use Rattle.sectors.specs.declared.Holder.the-variants.{None, Sector}
-use Rattle.otadata.specs.Records.{usableState, usableVerdict, noReading, sequenceIn}
+use Rattle.otadata.specs.Records.{noReading, goodVerdict, usableState, usableVerdict, sequenceIn}
+use Rattle.otadata.proofs.Verdicts.{not-good-has, by-verdict}
 use Rattle.sectors.specs.Sectors.{active, readingsOf}
 use Rattle.partitions.specs.PartitionList.{slotCount}
 use Rattle.boot_choice.specs.declared.Settings.{Settings}
 use Rattle.boot_choice.specs.declared.Choice.{Choice}
 use Rattle.boot_choice.specs.declared.Choice.the-variants.{Nothing, Through, Factory, Found}
 use Rattle.boot_choice.specs.Choice.{orElse, throughVerdict, throughRecord, throughHolder, throughRecords, verdictBars, barred, candidate, searchFrom, choice}
-use Rattle.boot.specs.Boot.{goodVerdict, anyGood, registerAfter, replyTo}
+use Rattle.boot.specs.Boot.{anyGood, registerAfter, replyTo}
 use Rattle.boot_laws.specs.Laws.{countedState, countedVerdict, counted, WithoutRollback}
 use Rattle.boot_laws.proofs.Changes.{no-marks}
 use Rattle.boot.proofs.Replies.{replies}
@@ -34,21 +36,21 @@ usable-state Invalid = refl
 usable-state Aborted = refl
 usable-state Undefined = refl
 
+-- what is the same of a good record is the same of every record: another one is left as it is
+same-of : {A : Type 0} (f : Verdict → A) → ((q : Sequence) (s : State) → f (Good q (countedState s)) ≡ f (Good q s)) → (v : Verdict) → f (countedVerdict v) ≡ f v
+same-of f good = by-verdict (λ (v : Verdict). f (countedVerdict v) ≡ f v) (λ v n. ap f (not-good-has _ v v n)) good
+
 usable-verdict : (v : Verdict) → usableVerdict (countedVerdict v) ≡ usableVerdict v
-usable-verdict NotGood = refl
-usable-verdict (Good q s) = usable-state s
+usable-verdict = same-of usableVerdict (λ q s. usable-state s)
 
 same-sequence : (v : Verdict) → sequenceIn (countedVerdict v) ≡ sequenceIn v
-same-sequence NotGood = refl
-same-sequence (Good q s) = refl
+same-sequence = same-of sequenceIn (λ q s. refl)
 
 same-good : (v : Verdict) → goodVerdict (countedVerdict v) ≡ goodVerdict v
-same-good NotGood = refl
-same-good (Good q s) = refl
+same-good = same-of goodVerdict (λ q s. refl)
 
 same-bars : (n : ℕ) (slot : Slot) (v : Verdict) → verdictBars n slot (countedVerdict v) ≡ verdictBars n slot v
-same-bars n slot NotGood = refl
-same-bars n slot (Good q s) = simp (usable-state s)
+same-bars n slot = same-of (verdictBars n slot) (λ q s. simp (usable-state s))
 
 -- ---- the two readings
 
@@ -62,8 +64,7 @@ module _ (list flash : List ℕ) (settings : Settings) (rs : List Reading) where
   same-active = simp (at, usable-verdict, same-sequence)
 
   same-verdict : (k : ℕ) (v : Verdict) → throughVerdict list flash settings k (countedVerdict v) ≡ throughVerdict list flash settings k v
-  same-verdict k NotGood = refl
-  same-verdict k (Good q s) = refl
+  same-verdict k = same-of (throughVerdict list flash settings k) (λ q s. refl)
 
   same-record : (k : ℕ) → throughRecord list flash settings k (getD (map counted rs) k noReading) ≡ throughRecord list flash settings k (getD rs k noReading)
   unfolding throughRecord

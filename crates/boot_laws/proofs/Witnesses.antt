@@ -12,20 +12,21 @@ use Rattle.otadata.specs.declared.Sequence.{Sequence}
 use Rattle.otadata.specs.declared.State.{State}
 use Rattle.otadata.specs.declared.State.the-variants.{New, Pending, Valid}
 use Rattle.otadata.specs.declared.Verdict.{Verdict}
-use Rattle.otadata.specs.declared.Verdict.the-variants.{None, Good}
+use Rattle.otadata.specs.declared.Verdict.the-variants.{Blank, Good}
 use Rattle.otadata.specs.declared.Reading.{Reading}
 use Rattle.sectors.specs.declared.Holder.the-variants.{Sector}
 use Rattle.otadata.specs.Words.{bytes, bytesOf, checkWord}
-use Rattle.otadata.specs.Records.{stateWord, good, noReading, reading, inState, namesSlot, recordOf}
+use Rattle.otadata.specs.Records.{stateWord, good, reading, inState, namesSlot, recordOf}
 use Rattle.otadata.proofs.Booleans.{true-is-not-false}
-use Rattle.sectors.specs.Sectors.{blank, sectorReading, active, cut, sectorAt, readingsOf}
+use Rattle.sectors.specs.Sectors.{recordIn, blank, sectorReading, active, cut, sectorAt, readingsOf}
 use Rattle.sectors.specs.PowerCut.{allowed, after, History}
 use Rattle.sectors.proofs.Cuts.{erased, programmed, unprogrammed}
-use Rattle.sectors.proofs.Examples.{is-blank, blank-reads, store-in-slice}
+use Rattle.sectors.proofs.Examples.{is-blank, store-in-slice}
 use Rattle.sectors.proofs.ReadingLaw.{after-size}
-use Rattle.sectors.proofs.SectorReads.{record-in, record-is, reading-of-reads}
+use Rattle.sectors.proofs.SectorReads.{record-in, record-is}
 use Rattle.sectors.proofs.Stores.{cut-length}
 use Rattle.otadata.proofs.RecordFields.{record-length}
+use Rattle.otadata.proofs.OneVerdict.{alone}
 use Rattle.otadata.proofs.RoundTrip.{read-good}
 use Rattle.sectors.proofs.Restating.{fields-read}
 use Rattle.sectors.proofs.Activity.{two}
@@ -143,14 +144,13 @@ blank-size = filled-length 4096 255
 starts-blank : blank blankSector
 starts-blank = is-blank blankSector blank-size (λ (j : ℕ) (l : j < 32). erased-byte 4096 j (omega arith))
 
--- a sector whose record is erased reads as none
-reads-none : (s : List ℕ) → length s ≡ 4096 → ((j : ℕ) → j < 32 → getD s j 0 ≡ 255) → sectorReading s .verdict ≡ None
-unfolding reading good noReading
-reads-none s size erased =
-    ap (λ (r : Reading). r .verdict) (reading-of-reads s) ∙ ap (λ (r : List ℕ). reading r .verdict) (blank-reads s size erased)
+-- a sector whose record is erased is found blank
+reads-blank : (s : List ℕ) → length s ≡ 4096 → ((j : ℕ) → j < 32 → getD s j 0 ≡ 255) → sectorReading s .verdict ≡ Blank
+unfolding blank
+reads-blank s size erased = sym (alone (recordIn s) Blank (is-blank s size erased))
 
-pub blank-verdict : sectorReading blankSector .verdict ≡ None
-blank-verdict = reads-none blankSector blank-size (λ (j : ℕ) (l : j < 32). erased-byte 4096 j (omega arith))
+pub blank-verdict : sectorReading blankSector .verdict ≡ Blank
+blank-verdict = reads-blank blankSector blank-size (λ (j : ℕ) (l : j < 32). erased-byte 4096 j (omega arith))
 
 refused-store : allowed refusedStore (cut newRecord 2000 blankSector)
 refused-store = store-in-slice (cut newRecord 2000 blankSector) newRecord 1 4095 (omega arith) 0
@@ -197,9 +197,9 @@ late-read =
     byte zero l = unprogrammed newRecord sectorBefore before-size 31 0 (omega arith) (omega arith) ∙ sym new-first
     byte (suc j) l = programmed newRecord sectorBefore before-size 31 (suc j) (omega arith) l (omega arith)
 
-middle-read : sectorReading (left 2000) .verdict ≡ None
+middle-read : sectorReading (left 2000) .verdict ≡ Blank
 middle-read =
-    reads-none (left 2000) (left-size 2000) (λ (j : ℕ) (l : j < 32). erased newRecord sectorBefore before-size 2000 j (omega arith) (omega arith))
+    reads-blank (left 2000) (left-size 2000) (λ (j : ℕ) (l : j < 32). erased newRecord sectorBefore before-size 2000 j (omega arith) (omega arith))
 
 -- ---- the two sectors after boot's marks: neither record is pending
 
@@ -259,7 +259,7 @@ module _ (p : ℕ) (l : p < 2) where
 
   loses : Prevails exampleList exampleFlash exampleSettings (otadataLeft 2000 p) p → ⊥
   loses w =
-      let same : None ≡ Good (w .sequence) (w .state) = sym (own-kept 2000 p l None middle-read refl) ∙ w .holds in
+      let same : Blank ≡ Good (w .sequence) (w .state) = sym (own-kept 2000 p l Blank middle-read refl) ∙ w .holds in
       let z : _≡_ {A = ℕ} 0 1 = cc in
       omega arith
 

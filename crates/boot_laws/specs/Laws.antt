@@ -9,10 +9,10 @@ use Rattle.otadata.specs.declared.Sequence.{Sequence}
 use Rattle.otadata.specs.declared.State.{State}
 use Rattle.otadata.specs.declared.State.the-variants.{New, Pending, Valid, Invalid, Aborted, Undefined}
 use Rattle.otadata.specs.declared.Verdict.{Verdict}
-use Rattle.otadata.specs.declared.Verdict.the-variants.{None as NotGood, Good}
+use Rattle.otadata.specs.declared.Verdict.the-variants.{Good}
 use Rattle.otadata.specs.declared.Reading.{Reading}
 use Rattle.sectors.specs.declared.Holder.the-variants.{Sector}
-use Rattle.otadata.specs.Records.{usable}
+use Rattle.otadata.specs.Records.{ifGood, usable}
 use Rattle.sectors.specs.Sectors.{sectorReading, sectorAt, readingsOf}
 use Rattle.efuse.specs.Register.{width, version}
 use Rattle.partitions.specs.declared.App.{App}
@@ -124,8 +124,7 @@ countedState Aborted = Aborted
 countedState Undefined = Undefined
 
 abbrev pub countedVerdict : Verdict → Verdict
-countedVerdict NotGood = NotGood
-countedVerdict (Good q state) = Good q (countedState state)
+countedVerdict v = ifGood (λ q state. Good q (countedState state)) v v
 
 abbrev pub counted : Reading → Reading
 counted r = record { verdict = countedVerdict (r .verdict); label = r .label }

@@ -1,7 +1,7 @@
 -- The answers as C gets them, by the case of the reply that a call has.
 -- Assumes nothing.
 use Prim.Native.Nat.{ℕ}
-use mathlib.Core.Path.{_≡_, refl}
+use mathlib.Core.Path.{_≡_, _∙_, refl}
 use mathlib.Core.Bool.{Bool, true, false, cond}
 use mathlib.Core.List.{List, [], _∷_}
 use lib.ListN.{length}
@@ -9,10 +9,11 @@ use mir.Val.{boolByte}
 use borrow.Author.Tests.{eq-eqb, ne-eqb}
 use Rattle.otadata.specs.declared.Sequence.{Sequence}
 use Rattle.otadata.specs.declared.State.{State}
-use Rattle.otadata.specs.declared.Verdict.the-variants.{None, Good}
+use Rattle.otadata.specs.declared.Verdict.{Verdict}
+use Rattle.otadata.specs.declared.Verdict.the-variants.{Good}
 use Rattle.otadata.specs.declared.Reading.{Reading}
-use Rattle.otadata.specs.Records.{stateWord}
-use Rattle.sectors.specs.Sectors.{sectorReading, Part, activePart}
+use Rattle.otadata.specs.Records.{stateWord, verdictView, view as Record·view}
+use Rattle.sectors.specs.Sectors.{readSector, Part, activePart}
 use Rattle.partitions.specs.declared.Listing.{Listing}
 use Rattle.partitions.specs.declared.Checked.{Checked as List·Checked}
 use Rattle.partitions.specs.declared.Checked.the-variants.{Refused as List·Refused, Accepted as List·Accepted}
@@ -23,17 +24,19 @@ use Rattle.app_image.specs.declared.Facts.{Facts}
 use Rattle.app_image.specs.declared.Checked.{Checked as Image·Checked}
 use Rattle.app_image.specs.declared.Checked.the-variants.{Refused as Image·Refused, Accepted as Image·Accepted}
 use Rattle.app_image.specs.Check.{check, view as Image·view}
-use Rattle.c_api.specs.Interface.{answer, toC, readView, activeView}
+use Rattle.c_api.specs.Interface.{answer, toC, activeView}
 
 -- ---- a sector
 
-module _ (sector : List ℕ) (reading : Reading) (is : reading ≡ sectorReading sector) where
-  pub reads-none : reading .verdict ≡ None → answer 0 (0 ∷ 0 ∷ []) ≡ toC 2 (readView (sectorReading sector .verdict))
-  reads-none e = simp (← is, e)
+module _ (sector : List ℕ) (reading : Reading) (is : viewed Record·view reading ≡ readSector sector) where
+  -- the answer of the verdict
+  pub reads : (v : Verdict) → reading .verdict ≡ v → (number : ℕ) (values : List ℕ) → answer number values ≡ toC 3 (verdictView v)
+      → answer number values ≡ toC 3 (readSector sector .answer)
+  reads v e number values same = same ∙ simp (← is, e)
 
   pub reads-good : (q : Sequence) (s : State) → reading .verdict ≡ Good q s → (w : ℕ) → w ≡ stateWord s
-      → answer 1 (q .0 ∷ w ∷ []) ≡ toC 2 (readView (sectorReading sector .verdict))
-  reads-good q s e w word = simp (← is, e, word)
+      → answer 0 (1 ∷ q .0 ∷ w ∷ []) ≡ toC 3 (readSector sector .answer)
+  reads-good q s e w word = reads (Good q s) e 0 (1 ∷ q .0 ∷ w ∷ []) (simp word)
 
 -- ---- the active record
 

@@ -1,15 +1,12 @@
 -- What C gets: an answer as a number and the array `out`; and what the arguments and outcomes of the calls on a node stand for.
 use Prim.Native.Nat.{ℕ, _-_}
 use mathlib.Core.Bool.{Bool, cond, not}
-use mathlib.Core.List.{List, [], _∷_, _++_}
+use mathlib.Core.List.{List, [], _++_}
 use lib.Dec.{eqb}
 use lib.ListN.{length, replicate, drop}
 use Rattle.otadata.specs.Answers.{Answer, Outcome as Answers·Outcome}
 use Rattle.otadata.specs.declared.Made.{Made}
 use Rattle.otadata.specs.declared.Slot.{Slot}
-use Rattle.otadata.specs.declared.Verdict.{Verdict}
-use Rattle.otadata.specs.declared.Verdict.the-variants.{None, Good}
-use Rattle.otadata.specs.Records.{stateWord}
 use Rattle.partitions.specs.declared.App.{App}
 use Rattle.partitions.specs.declared.App.the-variants.{Factory, OtaSlot}
 use Rattle.boot_choice.specs.declared.Settings.{Settings}
@@ -28,11 +25,6 @@ toC k a = answer (a .number) (a .values ++ replicate (k - length (a .values)) 0)
 -- a record as made: 0 and its bytes, or 17 and zero bytes
 abbrev pub madeView : Made → Answer
 madeView m = answer (m .number) (m .rec)
-
--- a record as read: 1, its sequence and its state word; none is 0
-abbrev pub readView : Verdict → Answer
-readView None = answer 0 []
-readView (Good q s) = answer 1 (q .0 ∷ stateWord s ∷ [])
 
 -- the active record: 32 and its bytes; where there is none, 0, and what was there before
 abbrev pub activeView : List ℕ → List ℕ → Answer

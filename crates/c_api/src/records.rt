@@ -3,13 +3,15 @@ ghost use mathlib.Core.Path.{_≡_};
 ghost use lib.ListN.{length};
 ghost use Rattle.otadata.specs.Words.{checkWord};
 ghost use Rattle.otadata.specs.Records.{made};
-ghost use Rattle.sectors.specs.Sectors.{sectorReading, part, activePart};
-ghost use Rattle.c_api.specs.Interface.{answer, toC, madeView, readView, activeView};
+ghost use Rattle.sectors.specs.Sectors.{readSector, part, activePart};
+ghost use Rattle.c_api.specs.Interface.{answer, toC, madeView, activeView};
+use otadata::DONE;
 use otadata::RECORD_SIZE;
 use otadata::Sequence;
 use otadata::Verdict;
 use otadata::check_word;
 use otadata::make;
+use sectors::WRONG_SIZE;
 use sectors::active_record;
 use sectors::read_sector;
 
@@ -37,21 +39,38 @@ pub extern "C" fn ota_make_record(
     made.number
 }
 
-// Reads a sector: 1 with the sequence and the state word, or 0 for none.
+// Reads a sector: 0 with 1, the sequence and the state word of a good record, or with 2 for blank, 3 for a bad sequence, 4 for a bad check
+// word, 5 for a bad state; 2 for a wrong size.
 #[no_mangle]
-pub extern "C" fn ota_read_sector(sector: &[u8], out: &mut [u32; 2]) -> u32
-    ensures { λ r. ⌜ answer r (now (out .exit)) ≡ toC 2 (readView (sectorReading (now (sector .entry)) .verdict)) ⌝ }
+pub extern "C" fn ota_read_sector(sector: &[u8], out: &mut [u32; 3]) -> u32
+    ensures { λ r. ⌜ answer r (now (out .exit)) ≡ toC 3 (readSector (now (sector .entry)) .answer) ⌝ }
 {
     let reading = read_sector(sector);
     let verdict = reading.verdict;
     match verdict {
-        Verdict::None => {
-            *out = [0, 0];
-            0
+        Verdict::WrongSize => {
+            *out = [0; 3];
+            WRONG_SIZE
+        }
+        Verdict::Blank => {
+            *out = [2, 0, 0];
+            DONE
+        }
+        Verdict::BadSequence => {
+            *out = [3, 0, 0];
+            DONE
+        }
+        Verdict::BadCheck => {
+            *out = [4, 0, 0];
+            DONE
+        }
+        Verdict::BadState => {
+            *out = [5, 0, 0];
+            DONE
         }
         Verdict::Good(sequence, state) => {
-            *out = [sequence.0, state.word()];
-            1
+            *out = [1, sequence.0, state.word()];
+            DONE
         }
     }
 }

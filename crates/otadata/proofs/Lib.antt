@@ -1,6 +1,7 @@
 pub mod Answers
 pub mod Booleans
 pub mod CheckWord
+pub mod Erased
 pub mod Examples
 pub mod RecordFields
 pub mod Filled
@@ -9,4 +10,7 @@ pub mod Making
 pub mod Mapped
 pub mod Numbers
 pub mod RoundTrip
+pub mod States
 pub mod Tables
+pub mod OneVerdict
+pub mod Verdicts

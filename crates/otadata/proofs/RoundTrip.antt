@@ -1,28 +1,28 @@
 -- The round trip of a record, both ways.
 -- Assumes nothing.
-use Prim.Native.Nat.{ℕ, zero, suc, _+_, _-_, _*_, _/_, _^_, _<_, _≤_}
-use mathlib.Core.Path.{_≡_, _∙_, refl, sym, ap, ap₂, subst}
+use Prim.Native.Nat.{ℕ, _+_, _-_, _*_, _/_, _^_, _<_, _≤_}
+use mathlib.Core.Path.{_≡_, _∙_, refl, sym, ap, ap₂}
 use mathlib.Core.Bool.{Bool, true, false, cond}
 use mathlib.Core.List.{List}
 use mathlib.Core.Logic.{⊎-elim}
 use native.Mathlib.Nat.{add-zero, zero-add}
 use native.Mathlib.Omega.{arith}
-use lib.Dec.{eqb, leb}
 use lib.ListN.{length, getD, replicate}
 use lib.Seq.{ext-getD}
-use borrow.Author.Tests.{eqb-true, leb-true}
 use Rattle.otadata.specs.declared.Sequence.{Sequence}
 use Rattle.otadata.specs.declared.State.{State}
 use Rattle.otadata.specs.declared.Verdict.the-variants.{Good}
 use Rattle.otadata.specs.declared.Reading.{Reading}
 use Rattle.otadata.specs.declared.Made.{Made}
 use Rattle.otadata.specs.Words.{bytes, word, byteOf}
-use Rattle.otadata.specs.Records.{sequenceField, labelField, stateField, stateWord, isState, stateOf, good, noReading, reading, recordOf, made}
+use Rattle.otadata.specs.Records.{sequenceField, labelField, stateField, stateWord, stateOf, good, reading, goodVerdict, recordOf, made}
+use Rattle.otadata.specs.Verdicts.{GoodLaw}
 use Rattle.otadata.specs.RoundTrip.{MadeThenRead, ReadThenMade}
-use Rattle.otadata.proofs.Booleans.{either}
 use Rattle.otadata.proofs.Numbers.{le-or-lt, below-four}
 use Rattle.otadata.proofs.RecordFields.{record-length, sequence-byte, label-byte, state-byte, check-byte, label-field-length, label-field-byte}
 use Rattle.otadata.proofs.Goodness.{IsGood, is-good}
+use Rattle.otadata.proofs.States.{word-of-state}
+use Rattle.otadata.proofs.OneVerdict.{labelled, reading-labelled, alone, good-law}
 
 -- ---- words and bytes
 
@@ -50,29 +50,6 @@ byte-of-word s at b =
     let l2 = b (at + 2) in
     let l3 = b (at + 3) in
     below-four (λ (i : ℕ). byteOf (word s at) i ≡ getD s (at + i) 0) (rw add-zero (omega arith)) (omega arith) (omega arith) (omega arith)
-
--- ---- the state of a word
-
-word-of-low : (w : ℕ) → w ≤ 4 → stateWord (stateOf w) ≡ w
-unfolding stateOf
-word-of-low zero l = refl
-word-of-low (suc zero) l = refl
-word-of-low (suc (suc zero)) l = refl
-word-of-low (suc (suc (suc zero))) l = refl
-word-of-low (suc (suc (suc (suc zero)))) l = refl
-word-of-low (suc (suc (suc (suc (suc w))))) l = absurd (omega arith)
-
-word-of-last : stateWord (stateOf 0xFFFFFFFF) ≡ 0xFFFFFFFF
-unfolding stateOf
-word-of-last = refl
-
-pub word-of-state : (w : ℕ) → isState w ≡ true → stateWord (stateOf w) ≡ w
-word-of-state w e =
-    ⊎-elim
-    (λ (low : leb w 4 ≡ true). word-of-low w (leb-true w 4 low))
-    (λ (top : eqb w 0xFFFFFFFF ≡ true).
-    subst (λ (x : ℕ). stateWord (stateOf x) ≡ x) (sym (eqb-true w 0xFFFFFFFF top)) word-of-last)
-    (either (leb w 4) (eqb w 0xFFFFFFFF) e)
 
 -- ---- the fields of the bytes of the fields
 
@@ -114,8 +91,9 @@ made-good q label state e = made-by (good (recordOf (q .0) label state)) (record
 
 pub reading-of-good : (rec : List ℕ) → good rec ≡ true
     → reading rec ≡ record { verdict = Good (record { 0 = sequenceField rec }) (stateOf (stateField rec)); label = labelField rec }
-unfolding reading
-reading-of-good rec g = simp g
+reading-of-good rec g =
+    let word = word-of-state (stateField rec) (is-good rec g .state) in
+    reading-labelled rec ∙ ap (labelled rec) (sym (alone rec (Good (record { 0 = sequenceField rec }) (stateOf (stateField rec))) (g, refl, word)))
 
 pub made-then-read : MadeThenRead
 unfolding MadeThenRead
@@ -177,14 +155,9 @@ same-record rec b g =
     sized = record-length q label state size
 
 -- a verdict of good is given to a good record alone
-good-by : (b : Bool) (r : Reading) (q : Sequence) (s : State) → cond b r noReading .verdict ≡ Good q s → b ≡ true
-unfolding noReading
-good-by true r q s e = refl
-good-by false r q s e = absurd (let z : _≡_ {A = ℕ} 0 1 = cc in omega arith)
-
 pub read-good : (rec : List ℕ) (q : Sequence) (s : State) → reading rec .verdict ≡ Good q s → good rec ≡ true
-unfolding reading
-read-good rec q s e = good-by (good rec) _ q s e
+unfolding GoodLaw
+read-good rec q s e = sym (good-law rec) ∙ ap goodVerdict e
 
 made-of-good : (rec : List ℕ) (q : Sequence) (label : List ℕ) (w : ℕ) → good rec ≡ true → recordOf (q .0) label w ≡ rec
     → made q label w ≡ record { number = 0; rec = rec }

@@ -1,4 +1,5 @@
 pub mod Answers
 pub mod Words
 pub mod Records
+pub mod Verdicts
 pub mod RoundTrip

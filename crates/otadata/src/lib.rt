@@ -40,9 +40,13 @@ pub enum State {
     Undefined,
 }
 
-// What a record's bytes are found to be. Only a good record has a sequence and a state.
+// What a record's bytes are found to be: the first of these that applies. Only a good record has a sequence and a state.
 pub enum Verdict {
-    None,
+    WrongSize,
+    Blank,
+    BadSequence,
+    BadCheck,
+    BadState,
     Good(Sequence, State),
 }
 

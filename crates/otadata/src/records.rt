@@ -1,10 +1,11 @@
-// A record: when it is good, what it reads as, and how one is made.
+// A record: what it is found to be, what it reads as, and how one is made.
 ghost use mathlib.Core.Path.{_≡_};
 ghost use Prim.Native.Nat.{_<_};
 ghost use lib.ListN.{length, getD};
+ghost use Rattle.otadata.specs.Answers.{viewed};
 ghost use Rattle.otadata.specs.Words.{checkWord};
-ghost use Rattle.otadata.specs.Records.{stateWord, isState, stateOf, isSequence, labelField, noReading, reading, usable as Records·usable, recordOf, made};
-ghost use Rattle.otadata.specs.Records.{good as Records·good, inState, sequenceIn, namesSlot};
+ghost use Rattle.otadata.specs.Records.{labelField, stateWord, isState, stateOf, isSequence, allFF, read as Records·read, view, reading};
+ghost use Rattle.otadata.specs.Records.{usableState, usable as Records·usable, inState, sequenceIn, namesSlot, recordOf, made};
 use crate::DONE;
 use crate::LAST_SEQUENCE;
 use crate::Made;
@@ -33,6 +34,20 @@ impl State {
             State::Undefined => 0xFFFF_FFFF,
         }
     }
+
+    // Whether a record in this state may be started.
+    fn usable(self) -> bool
+        ensures { λ r. ⌜ r ≡ usableState self ⌝ }
+    {
+        match self {
+            State::New => true,
+            State::Pending => true,
+            State::Valid => true,
+            State::Invalid => false,
+            State::Aborted => false,
+            State::Undefined => true,
+        }
+    }
 }
 
 impl Sequence {
@@ -51,22 +66,40 @@ impl Sequence {
     }
 }
 
-// Whether the bytes are a good record. Bytes of another length than 32 are none.
-fn good(rec: &[u8]) -> bool
-    ensures { λ r. ⌜ r ≡ Records·good (now (rec .entry)) ⌝ }
+// What the bytes are found to be.
+fn verdict_of(rec: &[u8]) -> Verdict
+    ensures { λ r. ⌜ r ≡ reading (now (rec .entry)) .verdict ⌝ }
 {
     if rec.len() != RECORD_SIZE {
-        return false;
+        return Verdict::WrongSize;
+    }
+    if all_ff(rec) {
+        return Verdict::Blank;
     }
     let sequence = word_at(rec, 0);
     let state = word_at(rec, 24);
     if !is_sequence(sequence) {
-        return false;
+        return Verdict::BadSequence;
     }
     if word_at(rec, 28) != check_word(Sequence(sequence)) {
-        return false;
+        return Verdict::BadCheck;
     }
-    is_state(state)
+    if !is_state(state) {
+        return Verdict::BadState;
+    }
+    Verdict::Good(Sequence(sequence), state_of(state))
+}
+
+// Whether every byte is 0xFF.
+fn all_ff(rec: &[u8]) -> bool
+    ensures { λ r. ⌜ r ≡ allFF (now (rec .entry)) ⌝ }
+{
+    for i in 0..rec.len() {
+        if rec[i] != 0xFF {
+            return false;
+        }
+    }
+    true
 }
 
 fn is_sequence(word: u32) -> bool
@@ -100,29 +133,19 @@ fn state_of(word: u32) -> State
     }
 }
 
-// The record in these bytes, or none.
+// The record in these bytes, or why there is no good one.
 pub fn read(rec: &[u8]) -> Reading
-    ensures { λ r. ⌜ r ≡ reading (now (rec .entry)) ⌝ }
+    ensures { λ r. ⌜ viewed view r ≡ Records·read (now (rec .entry)) ⌝ }
 {
-    if !good(rec) {
-        return no_reading();
-    }
-    let sequence = Sequence(word_at(rec, 0));
-    let state = state_of(word_at(rec, 24));
+    let verdict = verdict_of(rec);
+    let Verdict::Good(_, _) = verdict else {
+        return Reading {
+            verdict,
+            label: [0; 20],
+        };
+    };
     let label = label_of(rec);
-    Reading {
-        verdict: Verdict::Good(sequence, state),
-        label,
-    }
-}
-
-fn no_reading() -> Reading
-    ensures { λ r. ⌜ r ≡ noReading ⌝ }
-{
-    Reading {
-        verdict: Verdict::None,
-        label: [0; 20],
-    }
+    Reading { verdict, label }
 }
 
 fn label_of(rec: &[u8]) -> [u8; 20]
@@ -142,15 +165,8 @@ pub fn usable(reading: Reading) -> bool
 {
     let verdict = reading.verdict;
     match verdict {
-        Verdict::None => false,
-        Verdict::Good(_, state) => match state {
-            State::Invalid => false,
-            State::Aborted => false,
-            State::New => true,
-            State::Pending => true,
-            State::Valid => true,
-            State::Undefined => true,
-        },
+        Verdict::Good(_, state) => state.usable(),
+        _ => false,
     }
 }
 
@@ -160,19 +176,19 @@ pub fn in_state(reading: Reading, state: State) -> bool
 {
     let verdict = reading.verdict;
     match verdict {
-        Verdict::None => false,
         Verdict::Good(_, its) => its.word() == state.word(),
+        _ => false,
     }
 }
 
-// The sequence of a good record, and 0 of none.
+// The sequence of a good record, and 0 of any other.
 pub fn sequence_of(reading: Reading) -> Sequence
     ensures { λ r. ⌜ r ≡ sequenceIn (reading .verdict) ⌝ }
 {
     let verdict = reading.verdict;
     match verdict {
-        Verdict::None => Sequence(0),
         Verdict::Good(sequence, _) => sequence,
+        _ => Sequence(0),
     }
 }
 
@@ -181,12 +197,13 @@ pub fn make(sequence: Sequence, label: [u8; 20], state: u32) -> Made
     ensures { λ r. ⌜ r ≡ made sequence label state ⌝ }
 {
     let rec = fields(sequence, label, state);
-    if !good(&rec) {
+    let verdict = verdict_of(&rec);
+    let Verdict::Good(_, _) = verdict else {
         return Made {
             number: NO_GOOD_RECORD,
             rec: [0; RECORD_SIZE],
         };
-    }
+    };
     Made { number: DONE, rec }
 }
 

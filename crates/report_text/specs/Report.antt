@@ -1,11 +1,11 @@
--- The report on two otadata sectors, as document 01's "The report" prints it.
+-- The report on two otadata sectors, as document 01's "The report" prints it, with the reasons of document 02's order 7.
 use Prim.Native.Nat.{ℕ}
 use mathlib.Core.List.{List, _++_}
 use lib.ListN.{getD}
 use Rattle.otadata.specs.declared.State.{State}
 use Rattle.otadata.specs.declared.State.the-variants.{New, Pending, Valid, Invalid, Aborted, Undefined}
 use Rattle.otadata.specs.declared.Verdict.{Verdict}
-use Rattle.otadata.specs.declared.Verdict.the-variants.{None as NotGood, Good}
+use Rattle.otadata.specs.declared.Verdict.the-variants.{WrongSize, Blank, BadSequence, BadCheck, BadState, Good}
 use Rattle.otadata.specs.declared.Reading.{Reading}
 use Rattle.sectors.specs.declared.Holder.{Holder}
 use Rattle.sectors.specs.declared.Holder.the-variants.{None, Sector}
@@ -21,9 +21,13 @@ stateName Invalid = ascii "invalid"
 stateName Aborted = ascii "aborted"
 stateName Undefined = ascii "undefined"
 
--- a record that is not good prints none
+-- a record that is not good prints why. Document 01's none is left for a sector of a wrong size, which 8,192 bytes do not have
 abbrev pub verdictText : Verdict → List ℕ
-verdictText NotGood = ascii "none"
+verdictText WrongSize = ascii "none"
+verdictText Blank = ascii "blank"
+verdictText BadSequence = ascii "bad sequence"
+verdictText BadCheck = ascii "bad check"
+verdictText BadState = ascii "bad state"
 verdictText (Good q s) = ascii "seq " ++ decimal (q .0) ++ ascii " state " ++ stateName s
 
 unfoldable pub sectorLine : ℕ → Reading → List ℕ

@@ -45,7 +45,11 @@ fn push_verdict(text: Text, verdict: Verdict) -> Text
     ensures { λ r. ⌜ Puts text r (verdictText verdict) ⌝ }
 {
     match verdict {
-        Verdict::None => push_all(text, b"none"),
+        Verdict::WrongSize => push_all(text, b"none"),
+        Verdict::Blank => push_all(text, b"blank"),
+        Verdict::BadSequence => push_all(text, b"bad sequence"),
+        Verdict::BadCheck => push_all(text, b"bad check"),
+        Verdict::BadState => push_all(text, b"bad state"),
         Verdict::Good(sequence, state) => {
             let number = push_decimal(push_all(text, b"seq "), sequence.0 as u64);
             push_state(push_all(number, b" state "), state)

@@ -1,9 +1,9 @@
 -- Which record is active, as the tests of the code decide it.
 -- Assumes nothing.
 use Prim.Native.Nat.{ℕ, zero, suc, _-_, _<_}
-use mathlib.Core.Path.{_≡_, _∙_, refl, ap, subst}
+use mathlib.Core.Path.{_≡_, _∙_, refl, sym, ap, subst}
 use mathlib.Core.Bool.{Bool, true, false, not}
-use mathlib.Core.List.{List, [], _∷_}
+use mathlib.Core.List.{List, [], _∷_, map}
 use mathlib.Core.Logic.{_⊎_, inl, inr}
 use native.Mathlib.Nat.{not-suc-le-zero, le-of-suc-le-suc}
 use native.Mathlib.Omega.{arith}
@@ -14,8 +14,9 @@ use Rattle.otadata.specs.declared.Sequence.{Sequence}
 use Rattle.otadata.specs.declared.Reading.{Reading}
 use Rattle.sectors.specs.declared.Holder.{Holder}
 use Rattle.sectors.specs.declared.Holder.the-variants.{None, Sector}
-use Rattle.otadata.specs.Records.{usable, noReading, sequenceIn}
-use Rattle.sectors.specs.Sectors.{Part, recordPart, activePart, readings, higherOf, highestOf, active}
+use Rattle.otadata.specs.Answers.{Answered, viewed}
+use Rattle.otadata.specs.Records.{view, noReading, usable, sequenceIn}
+use Rattle.sectors.specs.Sectors.{Part, recordPart, activePart, readSectors, readings, higherOf, highestOf, active}
 
 -- below the length, the default does not count
 pub default : (rs : List Reading) (k : ℕ) (d e : Reading) → k < length rs → getD rs k d ≡ getD rs k e
@@ -142,7 +143,16 @@ stays-active rs left k e same (inl other) = both k (active-below-two rs k e) sam
 
 -- ---- the active record as a part of its sector
 
-module _ (first second : Part) (rs : List Reading) (both : rs ≡ readings (first .content) (second .content)) (h : Holder) (found : h ≡ active rs) where
+-- the replies of answers are the readings
+replies : (rs : List Reading) → map (λ (a : Answered Reading). a .reply) (map (viewed view) rs) ≡ rs
+replies [] = refl
+replies (r ∷ rs) = ap (_∷_ r) (replies rs)
+
+module _ (first second : Part) (rs : List Reading) (answered : map (viewed view) rs ≡ readSectors (first .content) (second .content))
+    (h : Holder) (found : h ≡ active rs) where
+  both : rs ≡ readings (first .content) (second .content)
+  both = sym (replies rs) ∙ ap (map (λ (a : Answered Reading). a .reply)) answered
+
   pub none-active : h ≡ None → (r : Part) → r ≡ record { place = first .place; content = [] } → r ≡ activePart first second
   unfolding activePart
   none-active e r er = er ∙ simp (← both, ← found, e)

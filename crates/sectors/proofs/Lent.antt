@@ -1,17 +1,21 @@
 -- A sector of otadata, as a part that is lent by its number, and what is done where there is no such sector.
 -- Assumes nothing.
 use Prim.Native.Nat.{ℕ, _+_, _-_, _*_, _/_, _<_, _≤_}
-use mathlib.Core.Path.{_≡_, _∙_, sym, ap, ap₂}
+use mathlib.Core.Path.{_≡_, _∙_, refl, sym, ap, ap₂, subst}
 use mathlib.Core.Bool.{false}
 use mathlib.Core.List.{List, [], _++_}
+use mathlib.Core.Logic.{inl}
 use native.Mathlib.Omega.{arith}
 use lib.Dec.{eqb}
 use lib.ListN.{length, take, drop, length-take, length-drop}
 use borrow.Author.Tests.{ne-eqb}
 use Rattle.otadata.specs.declared.State.{State}
 use Rattle.otadata.specs.declared.Reading.{Reading}
-use Rattle.otadata.specs.Records.{good, noReading, reading}
-use Rattle.sectors.specs.Sectors.{recordIn, sectorReading, Reply, reply, restated, rewrite, sectorAt, withSector, withState, withRecord, rewriteAt}
+use Rattle.otadata.specs.Answers.{viewed}
+use Rattle.otadata.specs.Records.{read, view, reading}
+use Rattle.sectors.specs.Sectors.{recordIn, readSector, sectorReading, Reply, reply, restated, rewrite, sectorAt, withSector, withState, withRecord, rewriteAt}
+use Rattle.otadata.proofs.Answers.{reply-of}
+use Rattle.otadata.proofs.Verdicts.{NotGood}
 use Rattle.sectors.proofs.TwoSectors.{with-same, with-state-none, with-state-same}
 
 -- the part that is lent, and otadata with y in its place
@@ -35,15 +39,15 @@ module _ (k : ℕ) (o : List ℕ) where
     unfolding recordIn
     no-record-there = simp no-sector
 
-    pub none-there : (r : Reading) → r ≡ sectorReading [] → r ≡ sectorReading (sectorAt k o)
+    pub none-there : (r : Reading) → viewed view r ≡ readSector [] → r ≡ sectorReading (sectorAt k o)
     unfolding recordIn
-    none-there r e = e ∙ sym (ap reading no-record-there)
+    none-there r e = sym (reply-of view r (readSector []) e) ∙ sym (ap reading no-record-there)
 
     pub nothing-restated-there : (state : State) (r : Reading) → r ≡ sectorReading (sectorAt k o)
         → (o ≡ withState state k o) × (r ≡ sectorReading (sectorAt k o))
-    unfolding reading noReading good
+    unfolding read
     nothing-restated-there state r e =
-        (sym (with-state-none state k o (ap (λ (x : List ℕ). reading x .verdict) no-record-there)), e)
+        (sym (with-state-none state k o (subst (λ (x : List ℕ). NotGood (reading x .verdict)) (sym no-record-there) (inl refl))), e)
 
     pub nothing-rewritten-there : (rec : List ℕ) → reply 2 o ≡ rewriteAt k o rec
     unfolding rewriteAt withRecord rewrite
@@ -57,21 +61,21 @@ module _ (k : ℕ) (o : List ℕ) where
   is-sector : lent k o ≡ sectorAt k o
   is-sector = ap (λ (n : ℕ). take n (drop (k * 4096) o)) width
 
-  pub sector-read : (r : Reading) → r ≡ sectorReading (lent k o) → r ≡ sectorReading (sectorAt k o)
-  sector-read r e = e ∙ ap sectorReading is-sector
+  pub sector-read : (r : Reading) → viewed view r ≡ readSector (lent k o) → r ≡ sectorReading (sectorAt k o)
+  sector-read r e = sym (reply-of view r (readSector (lent k o)) e) ∙ ap sectorReading is-sector
 
   module _ (y : List ℕ) where
     -- changed by f
     changed : (f : List ℕ → List ℕ) → y ≡ f (lent k o) → returned k o y ≡ withSector k (f (sectorAt k o)) o
     changed f e = ap₂ (λ (s : List ℕ) (n : ℕ). take (k * 4096) o ++ (s ++ drop n (drop (k * 4096) o))) (e ∙ ap f is-sector) width
 
-    pub sector-restated : k < length o / 4096 → (state : State) (r : Reading) → (y ≡ restated state (lent k o)) × (r ≡ sectorReading y)
+    pub sector-restated : k < length o / 4096 → (state : State) (r : Reading) → (y ≡ restated state (lent k o)) × (viewed view r ≡ readSector y)
         → (returned k o y ≡ withState state k o) × (r ≡ sectorReading (sectorAt k (returned k o y)))
     unfolding withState
     sector-restated l state r e =
         let is : returned k o y ≡ withState state k o = changed (restated state) (e .0) in
         let same : y ≡ sectorAt k (withState state k o) = e .0 ∙ ap (restated state) is-sector ∙ sym (with-state-same state k o (omega arith)) in
-        (is, e .1 ∙ ap sectorReading (same ∙ ap (sectorAt k) (sym is)))
+        (is, sym (reply-of view r (readSector y) (e .1)) ∙ ap sectorReading (same ∙ ap (sectorAt k) (sym is)))
 
     pub sector-rewritten : (rec : List ℕ) (number : ℕ) → reply number y ≡ rewrite (lent k o) rec → reply number (returned k o y) ≡ rewriteAt k o rec
     unfolding rewriteAt withRecord

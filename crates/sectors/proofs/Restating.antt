@@ -1,7 +1,7 @@
 -- Changing the state of a sector's record: what is written, and what the sector then reads as.
 -- Assumes nothing.
 use Prim.Native.Nat.{ℕ, _+_, _-_, _^_, _<_, _≤_}
-use mathlib.Core.Path.{_≡_, _∙_, refl, sym, ap}
+use mathlib.Core.Path.{_≡_, _∙_, refl, sym, ap, subst}
 use mathlib.Core.Bool.{Bool, true, false, cond}
 use mathlib.Core.List.{List, []}
 use native.Mathlib.Omega.{arith}
@@ -12,30 +12,25 @@ use Rattle.otadata.specs.declared.Sequence.{Sequence}
 use Rattle.otadata.specs.declared.State.{State}
 use Rattle.otadata.specs.declared.State.the-variants.{New, Pending, Valid, Invalid, Aborted, Undefined}
 use Rattle.otadata.specs.declared.Verdict.{Verdict}
-use Rattle.otadata.specs.declared.Verdict.the-variants.{None, Good}
+use Rattle.otadata.specs.declared.Verdict.the-variants.{Good}
 use Rattle.otadata.specs.declared.Reading.{Reading}
 use Rattle.otadata.specs.declared.Made.{Made}
 use Rattle.otadata.specs.Words.{byteOf, checkWord}
-use Rattle.otadata.specs.Records.{sequenceField, labelField, stateField, checkField, stateWord, isState, stateOf, good, reading, recordOf, made}
-use Rattle.sectors.specs.Sectors.{recordIn, sectorReading, cut, Reply, reply, sized, rewrite, restatedVerdict, restated}
+use Rattle.otadata.specs.Answers.{viewed}
+use Rattle.otadata.specs.Records.{sequenceField, labelField, stateField, checkField, stateWord, isState, stateOf, good, view, reading, recordOf, made}
+use Rattle.sectors.specs.Sectors.{recordIn, readSector, sectorReading, cut, Reply, reply, sized, rewrite, restatedVerdict, restated}
+use Rattle.otadata.proofs.Answers.{reply-of}
 use Rattle.otadata.proofs.Booleans.{true-is-not-false}
+use Rattle.otadata.proofs.States.{state-of-word}
+use Rattle.otadata.proofs.Verdicts.{NotGood, not-good-has, by-verdict}
 use Rattle.otadata.proofs.Goodness.{is-good}
 use Rattle.otadata.proofs.RecordFields.{record-length, check-byte, label-field-length}
 use Rattle.sectors.proofs.ReadingLaw.{finished-record}
 use Rattle.otadata.proofs.RoundTrip.{word-of-bytes, made-sequence, made-state, made-label, read-good, reading-of-good}
-use Rattle.sectors.proofs.SectorReads.{no-record}
+use Rattle.sectors.proofs.SectorReads.{no-record, reading-viewed}
 use Rattle.sectors.proofs.Stores.{right-sizes, cut-length}
 
 -- ---- the word of a state
-
-pub state-of-word : (s : State) → stateOf (stateWord s) ≡ s
-unfolding stateOf
-state-of-word New = refl
-state-of-word Pending = refl
-state-of-word Valid = refl
-state-of-word Invalid = refl
-state-of-word Aborted = refl
-state-of-word Undefined = refl
 
 word-is-state : (s : State) → isState (stateWord s) ≡ true
 word-is-state New = refl
@@ -139,9 +134,9 @@ holds s q old e =
     }
 
 module _ (s : List ℕ) (state : State) where
-  pub none-restated : sectorReading s .verdict ≡ None → restated state s ≡ s
+  pub none-restated : NotGood (sectorReading s .verdict) → restated state s ≡ s
   unfolding restated
-  none-restated e = simp e
+  none-restated n = not-good-has _ _ (sectorReading s .verdict) n
 
   module _ (q : Sequence) (old : State) (e : sectorReading s .verdict ≡ Good q old) where
     pub is-restated : restated state s ≡ rewrite s (recordOf (q .0) (sectorReading s .label) (stateWord state)) .sector
@@ -169,8 +164,11 @@ unfolding rewrite
 rewrite-size s rec = sized-by (sized s rec) s (cut rec 4128 s) (cut-length s rec 4128)
 
 verdict-size : (v : Verdict) (label : List ℕ) (state : State) (s : List ℕ) → length (restatedVerdict v label state s) ≡ length s
-verdict-size None label state s = refl
-verdict-size (Good q old) label state s = rewrite-size s _
+verdict-size v label state s =
+    by-verdict (λ (x : Verdict). length (restatedVerdict x label state s) ≡ length s)
+    (λ x n. ap length (not-good-has (λ q old. rewrite s (recordOf (q .0) label (stateWord state)) .sector) s x n))
+    (λ q old. rewrite-size s (recordOf (q .0) label (stateWord state)))
+    v
 
 pub restated-size : (state : State) (s : List ℕ) → length (restated state s) ≡ length s
 unfolding restated
@@ -178,14 +176,17 @@ restated-size state s = verdict-size (sectorReading s .verdict) (sectorReading s
 
 -- ---- as the code decides it
 
-module _ (s : List ℕ) (state : State) (r : Reading) (read : r ≡ sectorReading s) where
-  pub nothing-restated : r .verdict ≡ None → (s ≡ restated state s) × (r ≡ sectorReading s)
-  nothing-restated e = (sym (none-restated s state (ap (λ (x : Reading). x .verdict) (sym read) ∙ e)), read)
+module _ (s : List ℕ) (state : State) (r : Reading) (answered : viewed view r ≡ readSector s) where
+  read : r ≡ sectorReading s
+  read = sym (reply-of view r (readSector s) answered)
+
+  pub nothing-restated : NotGood (r .verdict) → (s ≡ restated state s) × (viewed view r ≡ readSector s)
+  nothing-restated n = (sym (none-restated s state (subst (λ (x : Reading). NotGood (x .verdict)) read n)), answered)
 
   pub record-restated : (q : Sequence) (old : State) → r .verdict ≡ Good q old
       → (w : ℕ) → w ≡ stateWord state → (m : Made) → m ≡ made q (r .label) w
       → (n : ℕ) (t : List ℕ) → reply n t ≡ rewrite s (m .rec)
-      → (t ≡ restated state s) × (_≡_ {A = Reading} (record { verdict = Good q state; label = r .label }) (sectorReading t))
+      → (t ≡ restated state s) × (viewed view (record { verdict = Good q state; label = r .label }) ≡ readSector t)
   record-restated q old e w ew m em n t et =
       let v : sectorReading s .verdict ≡ Good q old = ap (λ (x : Reading). x .verdict) (sym read) ∙ e in
       let label : r .label ≡ sectorReading s .label = ap (λ (x : Reading). x .label) read in
@@ -195,4 +196,6 @@ module _ (s : List ℕ) (state : State) (r : Reading) (read : r ≡ sectorReadin
       ap (λ (x : Made). x .rec) (em ∙ is ∙ fields-made (q .0) (sectorReading s .label) state (h .from-one) (h .to-last) (h .label-size)) in
       let written : t ≡ rewrite s (m .rec) .sector = ap (λ (x : Reply). x .sector) et in
       let left : t ≡ restated state s = written ∙ ap (λ (x : List ℕ). rewrite s x .sector) same ∙ sym (is-restated s state q old v) in
-      (left, (simp label) ∙ sym (ap sectorReading left ∙ restated-reading s state q old v))
+      let now : sectorReading t ≡ record { verdict = Good q state; label = r .label } =
+      ap sectorReading left ∙ restated-reading s state q old v ∙ simp label in
+      (left, ap (viewed view) (sym now) ∙ reading-viewed t)

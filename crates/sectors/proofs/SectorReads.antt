@@ -4,14 +4,17 @@ use Prim.Native.Nat.{ℕ, _<_}
 use mathlib.Core.Path.{_≡_, _∙_, refl, sym, ap}
 use mathlib.Core.Bool.{true, false}
 use mathlib.Core.List.{List, []}
-use mathlib.Core.Logic.{_⊎_, ⊎-elim}
+use mathlib.Core.Logic.{_⊎_}
 use native.Mathlib.Omega.{arith}
 use lib.ListN.{length, getD, take}
 use lib.Seq.{getD-take, length-take-le, ext-getD}
 use borrow.Author.Tests.{eq-eqb}
-use Rattle.otadata.specs.Records.{good, reading}
-use Rattle.sectors.specs.Sectors.{recordIn, readsAs, sectorReading}
+use Rattle.otadata.specs.Answers.{Answer, viewed}
+use Rattle.otadata.specs.Records.{good, view}
+use Rattle.otadata.specs.Verdicts.{ViewLaw}
+use Rattle.sectors.specs.Sectors.{recordIn, readsAs, readSector, sectorReading}
 use Rattle.otadata.proofs.Booleans.{true-or-false}
+use Rattle.otadata.proofs.OneVerdict.{view-law}
 
 pub reads-record : (s : List ℕ) → good (recordIn s) ≡ true → readsAs s ≡ recordIn s
 unfolding readsAs
@@ -47,20 +50,13 @@ module _ (s : List ℕ) (size : length s ≡ 4096) where
       let h : j < 32 = omega (arith, record-in-length) in
       record-in-byte j h ∙ same j h)
 
--- ---- the fields that are read
+-- ---- the answer
 
 pub no-record : good [] ≡ false
 unfolding good
 no-record = refl
 
-reading-none : (rec : List ℕ) → good rec ≡ false → reading rec ≡ reading []
-unfolding reading
-reading-none rec e = simp (e, no-record)
-
--- the fields are those of what the sector reads as: sectors that read alike have the same reading
-pub reading-of-reads : (s : List ℕ) → sectorReading s ≡ reading (readsAs s)
-reading-of-reads s =
-    ⊎-elim
-    (λ (g : good (recordIn s) ≡ true). ap reading (sym (reads-record s g)))
-    (λ (g : good (recordIn s) ≡ false). reading-none (recordIn s) g ∙ ap reading (sym (reads-none s g)))
-    (good-or-not s)
+-- the reading has the answer of its view
+pub reading-viewed : (s : List ℕ) → viewed view (sectorReading s) ≡ readSector s
+unfolding ViewLaw
+reading-viewed s = ap (λ (a : Answer). record { answer = a; reply = sectorReading s }) (sym (view-law (recordIn s)))

@@ -9,10 +9,11 @@ use lib.ListN.{length, getD, set, take, drop, length-append, length-take, length
 use lib.Seq.{length-take-le, take-at, drop-at}
 use Rattle.otadata.specs.declared.Sequence.{Sequence}
 use Rattle.otadata.specs.declared.State.{State}
-use Rattle.otadata.specs.declared.Verdict.the-variants.{None, Good}
+use Rattle.otadata.specs.declared.Verdict.the-variants.{Good}
 use Rattle.otadata.specs.declared.Reading.{Reading}
 use Rattle.otadata.specs.Records.{reading}
 use Rattle.sectors.specs.Sectors.{sectorReading, rewrite, restated, sectorAt, withSector, readingsOf, withState, withRecord}
+use Rattle.otadata.proofs.Verdicts.{NotGood}
 use Rattle.sectors.proofs.ReadingLaw.{slice-same}
 use Rattle.sectors.proofs.Restating.{none-restated, restated-reading, restated-size, rewrite-size, rewritten-reading}
 use Rattle.sectors.proofs.Activity.{two}
@@ -47,7 +48,7 @@ sector-other k l o size s sector =
 
 module _ (state : State) (k : ℕ) (o : List ℕ) where
   -- without a good record there is no state to change
-  pub with-state-none : sectorReading (sectorAt k o) .verdict ≡ None → withState state k o ≡ o
+  pub with-state-none : NotGood (sectorReading (sectorAt k o) .verdict) → withState state k o ≡ o
   unfolding withState
   with-state-none e = ap (λ (s : List ℕ). withSector k s o) (none-restated (sectorAt k o) state e) ∙ with-same k o
 

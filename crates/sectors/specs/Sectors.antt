@@ -6,13 +6,13 @@ use mathlib.Core.List.{List, [], _∷_, _++_}
 use denote.Ref.{RefT}
 use lib.Dec.{eqb, ltb}
 use lib.ListN.{length, getD, set, take, drop, replicate}
+use Rattle.otadata.specs.Answers.{Answered}
 use Rattle.otadata.specs.declared.State.{State}
 use Rattle.otadata.specs.declared.Verdict.{Verdict}
-use Rattle.otadata.specs.declared.Verdict.the-variants.{None as NotGood, Good}
 use Rattle.otadata.specs.declared.Reading.{Reading}
 use Rattle.sectors.specs.declared.Holder.{Holder}
 use Rattle.sectors.specs.declared.Holder.the-variants.{None, Sector}
-use Rattle.otadata.specs.Records.{stateWord, good, usable, sequenceIn, reading, noReading, recordOf}
+use Rattle.otadata.specs.Records.{stateWord, good, read, reading, noReading, ifGood, usable, sequenceIn, recordOf}
 
 -- ---- reading
 
@@ -28,11 +28,19 @@ blank s = recordIn s ≡ replicate 32 255
 unfoldable pub readsAs : List ℕ → List ℕ
 readsAs s = cond (good (recordIn s)) (recordIn s) []
 
--- the fields of the record that a sector reads as
+-- the answer to a sector is that to its record: another size than 4,096 bytes is refused with 2
+abbrev pub readSector : List ℕ → Answered Reading
+readSector s = read (recordIn s)
+
+-- the fields of the record that a sector reads as, or why there is none
 abbrev pub sectorReading : List ℕ → Reading
 sectorReading s = reading (recordIn s)
 
--- both readings, indexed by sector number
+-- both answers, indexed by sector number
+abbrev pub readSectors : List ℕ → List ℕ → List (Answered Reading)
+readSectors first second = readSector first ∷ readSector second ∷ []
+
+-- both readings
 abbrev pub readings : List ℕ → List ℕ → List Reading
 readings first second = sectorReading first ∷ sectorReading second ∷ []
 
@@ -116,8 +124,7 @@ rewrite s rec = cond (sized s rec) (reply 0 (cut rec 4128 s)) (reply 2 s)
 
 -- the sector rewritten whole with its record in another state: sequence and label stay
 abbrev pub restatedVerdict : Verdict → List ℕ → State → List ℕ → List ℕ
-restatedVerdict NotGood label state s = s
-restatedVerdict (Good q old) label state s = rewrite s (recordOf (q .0) label (stateWord state)) .sector
+restatedVerdict v label state s = ifGood (λ q old. rewrite s (recordOf (q .0) label (stateWord state)) .sector) s v
 
 -- a sector without a good record stays as it is
 unfoldable pub restated : State → List ℕ → List ℕ

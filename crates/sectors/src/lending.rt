@@ -1,5 +1,5 @@
-// A sector of otadata by its number: what it reads as, a change of its state, its rewrite. Where otadata has no such sector, none is
-// read and nothing is written.
+// A sector of otadata by its number: what it reads as, a change of its state, its rewrite. Where otadata has no such sector, its size
+// is wrong and nothing is written.
 ghost use mathlib.Core.Path.{_≡_};
 ghost use Rattle.sectors.specs.Sectors.{sectorReading, reply, sectorAt, readingsOf, withState, rewriteAt};
 use crate::SECTOR_SIZE;

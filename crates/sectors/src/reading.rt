@@ -1,6 +1,9 @@
 // Reading the two otadata sectors, and the active record.
 ghost use mathlib.Core.Path.{_≡_};
-ghost use Rattle.sectors.specs.Sectors.{sectorReading, readings as Sectors·readings, higherOf, active as Sectors·active};
+ghost use mathlib.Core.List.{map};
+ghost use Rattle.otadata.specs.Answers.{viewed};
+ghost use Rattle.otadata.specs.Records.{view};
+ghost use Rattle.sectors.specs.Sectors.{readSector, readSectors, higherOf, active as Sectors·active};
 ghost use Rattle.sectors.specs.Sectors.{part, recordPart, activePart};
 use crate::Holder;
 use crate::SECTOR_SIZE;
@@ -20,16 +23,16 @@ fn record_part(sector: &[u8]) -> &[u8]
     &sector[..0]
 }
 
-// What a sector reads as.
+// What a sector reads as, or why it reads as none.
 pub fn read_sector(sector: &[u8]) -> Reading
-    ensures { λ r. ⌜ r ≡ sectorReading (now (sector .entry)) ⌝ }
+    ensures { λ r. ⌜ viewed view r ≡ readSector (now (sector .entry)) ⌝ }
 {
     read(record_part(sector))
 }
 
 // What both sectors read as, indexed by sector number.
 pub fn readings(first: &[u8], second: &[u8]) -> [Reading; 2]
-    ensures { λ r. ⌜ r ≡ Sectors·readings (now (first .entry)) (now (second .entry)) ⌝ }
+    ensures { λ r. ⌜ map (viewed view) r ≡ readSectors (now (first .entry)) (now (second .entry)) ⌝ }
 {
     [read_sector(first), read_sector(second)]
 }

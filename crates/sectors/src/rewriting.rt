@@ -1,6 +1,8 @@
 // Rewriting a sector, one store after the other.
 ghost use mathlib.Core.Path.{_≡_};
-ghost use Rattle.sectors.specs.Sectors.{sectorReading, sized as Sectors·sized, reply, singleStore, rewrite as Sectors·rewrite, restated};
+ghost use Rattle.otadata.specs.Answers.{viewed};
+ghost use Rattle.otadata.specs.Records.{view};
+ghost use Rattle.sectors.specs.Sectors.{readSector, sized as Sectors·sized, reply, singleStore, rewrite as Sectors·rewrite, restated};
 use crate::NO_SUCH_STORE;
 use crate::SECTOR_SIZE;
 use crate::STORES;
@@ -59,7 +61,7 @@ pub fn rewrite(sector: &mut [u8], rec: &[u8]) -> u32
 // Rewrites a sector whole with its record in another state; sequence and label stay. A sector without a good record stays as it is.
 // Gives what the sector then reads as.
 pub fn restate(sector: &mut [u8], state: State) -> Reading
-    ensures { λ r. ⌜ (now (sector .exit) ≡ restated state (now (sector .entry))) × (r ≡ sectorReading (now (sector .exit))) ⌝ }
+    ensures { λ r. ⌜ (now (sector .exit) ≡ restated state (now (sector .entry))) × (viewed view r ≡ readSector (now (sector .exit))) ⌝ }
 {
     let reading = read_sector(sector);
     let verdict = reading.verdict;

@@ -7,17 +7,15 @@ use lib.ListN.{getD}
 use Rattle.otadata.specs.declared.Slot.{Slot}
 use Rattle.otadata.specs.declared.State.the-variants.{Pending}
 use Rattle.otadata.specs.declared.Verdict.{Verdict}
-use Rattle.otadata.specs.declared.Verdict.the-variants.{None as NotGood, Good}
 use Rattle.otadata.specs.declared.Reading.{Reading}
 use Rattle.sectors.specs.declared.Holder.{Holder}
 use Rattle.sectors.specs.declared.Holder.the-variants.{None, Sector}
-use Rattle.otadata.specs.Records.{namesSlot, noReading, inState}
+use Rattle.otadata.specs.Records.{noReading, ifGood, inState, namesSlot}
 use Rattle.sectors.specs.Sectors.{highestOf, active}
 
 -- the record is good and names slot s
 abbrev pub names : ℕ → Slot → Verdict → Bool
-names n s NotGood = false
-names n s (Good q state) = eqb (namesSlot n q .0) (s .0)
+names n s v = ifGood (λ q state. eqb (namesSlot n q .0) (s .0)) false v
 
 -- the sector, where its record names slot s
 abbrev pub ifNames : ℕ → Slot → List Reading → Holder → Holder

@@ -11,9 +11,10 @@ use Rattle.otadata.specs.declared.Sequence.{Sequence}
 use Rattle.otadata.specs.declared.State.{State}
 use Rattle.otadata.specs.declared.State.the-variants.{Pending, Invalid, Aborted}
 use Rattle.otadata.specs.declared.Verdict.{Verdict}
-use Rattle.otadata.specs.declared.Verdict.the-variants.{None, Good}
+use Rattle.otadata.specs.declared.Verdict.the-variants.{Good}
 use Rattle.otadata.specs.declared.Reading.{Reading}
 use Rattle.otadata.specs.Records.{noReading, inState}
+use Rattle.otadata.proofs.Verdicts.{NotGood, not-good-has, by-verdict}
 use Rattle.sectors.specs.Sectors.{sectorReading, sectorAt, readingsOf, withState}
 use Rattle.sectors.proofs.Activity.{default}
 use Rattle.boot_choice.specs.declared.Settings.{Settings}
@@ -30,8 +31,8 @@ use Rattle.sectors.proofs.TwoSectors.{with-state-none, with-state-size, with-st
 -- ---- as the code makes the readings
 
 module _ (state : State) (r : Reading) where
-  pub none-in : r .verdict ≡ None → _≡_ {A = Reading} (record { verdict = None; label = r .label }) (readingIn state r)
-  none-in e = simp e
+  pub not-good-in : NotGood (r .verdict) → r ≡ readingIn state r
+  not-good-in n = ap (λ (v : Verdict). record { verdict = v; label = r .label }) (sym (not-good-has _ (r .verdict) (r .verdict) n))
 
   pub good-in : (q : Sequence) (old : State) → r .verdict ≡ Good q old
       → _≡_ {A = Reading} (record { verdict = Good q state; label = r .label }) (readingIn state r)
@@ -68,10 +69,14 @@ chosen-falls-back list flash settings rs size k l d invalid i left is c chose t 
 module _ (state : State) (k : ℕ) (l : k < 2) (o : List ℕ) (size : length o ≡ 8192) where
   reading-by : (v : Verdict) → sectorReading (sectorAt k o) .verdict ≡ v
       → sectorReading (sectorAt k (withState state k o)) ≡ record { verdict = verdictIn state v; label = sectorReading (sectorAt k o) .label }
-  reading-by None e =
-      ap (λ (x : List ℕ). sectorReading (sectorAt k x)) (with-state-none state k o e)
-      ∙ ap (λ (v : Verdict). record { verdict = v; label = sectorReading (sectorAt k o) .label }) e
-  reading-by (Good q old) e = with-state-reading state k o l size q old e
+  reading-by =
+      by-verdict
+      (λ (v : Verdict). sectorReading (sectorAt k o) .verdict ≡ v
+      → sectorReading (sectorAt k (withState state k o)) ≡ record { verdict = verdictIn state v; label = sectorReading (sectorAt k o) .label })
+      (λ v n e.
+      ap (λ (x : List ℕ). sectorReading (sectorAt k x)) (with-state-none state k o (subst NotGood (sym e) n))
+      ∙ ap (λ (x : Verdict). record { verdict = x; label = sectorReading (sectorAt k o) .label }) (e ∙ sym (not-good-has _ v v n)))
+      (λ q old e. with-state-reading state k o l size q old e)
 
   reading-restated : sectorReading (sectorAt k (withState state k o)) ≡ readingIn state (sectorReading (sectorAt k o))
   reading-restated = reading-by (sectorReading (sectorAt k o) .verdict) refl

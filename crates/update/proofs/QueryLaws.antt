@@ -10,11 +10,12 @@ use Rattle.otadata.specs.Answers.{viewed}
 use Rattle.otadata.specs.declared.Slot.{Slot}
 use Rattle.otadata.specs.declared.Sequence.{Sequence}
 use Rattle.otadata.specs.declared.State.{State}
-use Rattle.otadata.specs.declared.Verdict.the-variants.{None as NotGood, Good}
+use Rattle.otadata.specs.declared.Verdict.the-variants.{Good}
 use Rattle.otadata.specs.declared.Reading.{Reading}
 use Rattle.sectors.specs.declared.Holder.{Holder}
 use Rattle.sectors.specs.declared.Holder.the-variants.{None, Sector}
 use Rattle.otadata.specs.Records.{noReading}
+use Rattle.otadata.proofs.Verdicts.{NotGood, not-good-has}
 use Rattle.sectors.proofs.Activity.{default}
 use Rattle.partitions.specs.declared.App.{App}
 use Rattle.partitions.specs.declared.App.the-variants.{Factory, OtaSlot}
@@ -28,11 +29,11 @@ use Rattle.slot_records.specs.Naming.{namingRecord}
 use Rattle.slot_records.proofs.Named.{record-below-two}
 use Rattle.update.specs.declared.Queried.{Queried}
 use Rattle.update.specs.declared.Queried.the-variants.{Refused as NotFound, Found}
-use Rattle.update.specs.Replies.{queryView, nextView}
+use Rattle.update.specs.Replies.{queryView, nextView, notFound}
 use Rattle.update.specs.declared.NextSlot.{NextSlot}
 use Rattle.update.specs.declared.NextSlot.the-variants.{Refused as NoNext, Next}
 use Rattle.update.specs.Tests.{slotTest, runningTest, unconfirmed}
-use Rattle.update.specs.Queries.{stateNaming, stateQuery, Counted, slotAfter, nextOf, nextSlot}
+use Rattle.update.specs.Queries.{stateIn, stateNaming, stateQuery, Counted, slotAfter, nextOf, nextSlot}
 use Rattle.update.proofs.TestLaws.{below-count}
 
 -- ---- the state query
@@ -50,9 +51,11 @@ module _ (n : ℕ) (s : Slot) (rs : List Reading) (size : length rs ≡ 2) (h : 
       its-reading : getD rs k noReading ≡ getD rs k d
       its-reading = default rs k noReading d (omega (arith, naming-sector))
 
-      pub no-state : getD rs k d .verdict ≡ NotGood → viewed queryView (NotFound 8) ≡ stateNaming n s rs
+      pub no-state : NotGood (getD rs k d .verdict) → viewed queryView (NotFound 8) ≡ stateNaming n s rs
       unfolding stateNaming
-      no-state v = simp (← found, e, its-reading, v)
+      no-state o =
+          let f : stateIn (getD rs k d .verdict) ≡ notFound 8 = not-good-has _ _ (getD rs k d .verdict) o in
+          simp (← found, e, its-reading, f)
 
       pub state-found : (q : Sequence) (state : State) → getD rs k d .verdict ≡ Good q state → viewed queryView (Found state) ≡ stateNaming n s rs
       unfolding stateNaming

@@ -6,16 +6,15 @@ use lib.ListN.{getD, set}
 use Rattle.otadata.specs.declared.State.{State}
 use Rattle.otadata.specs.declared.State.the-variants.{Pending, Invalid, Aborted}
 use Rattle.otadata.specs.declared.Verdict.{Verdict}
-use Rattle.otadata.specs.declared.Verdict.the-variants.{None as NotGood, Good}
+use Rattle.otadata.specs.declared.Verdict.the-variants.{Good}
 use Rattle.otadata.specs.declared.Reading.{Reading}
-use Rattle.otadata.specs.Records.{noReading, inState}
+use Rattle.otadata.specs.Records.{noReading, ifGood, inState}
 use Rattle.boot_choice.specs.declared.Settings.{Settings}
 use Rattle.boot_choice.specs.Choice.{chosen, choice}
 
--- a good record in another state
+-- a good record in another state; any other stays as it is
 abbrev pub verdictIn : State → Verdict → Verdict
-verdictIn state NotGood = NotGood
-verdictIn state (Good q old) = Good q state
+verdictIn state v = ifGood (λ q old. Good q state) v v
 
 abbrev pub readingIn : State → Reading → Reading
 readingIn state r = record { verdict = verdictIn state (r .verdict); label = r .label }

@@ -6,11 +6,10 @@ use lib.ListN.{length, getD}
 use Rattle.otadata.specs.Answers.{Answered}
 use Rattle.otadata.specs.declared.Slot.{Slot}
 use Rattle.otadata.specs.declared.Verdict.{Verdict}
-use Rattle.otadata.specs.declared.Verdict.the-variants.{None as NotGood, Good}
 use Rattle.otadata.specs.declared.Reading.{Reading}
 use Rattle.sectors.specs.declared.Holder.{Holder}
 use Rattle.sectors.specs.declared.Holder.the-variants.{None, Sector}
-use Rattle.otadata.specs.Records.{noReading}
+use Rattle.otadata.specs.Records.{noReading, ifGood}
 use Rattle.partitions.specs.declared.App.{App}
 use Rattle.partitions.specs.declared.App.the-variants.{Factory, OtaSlot}
 use Rattle.partitions.specs.declared.Checked.{Checked}
@@ -28,8 +27,7 @@ use Rattle.update.specs.Tests.{slotTest, runningTest, unconfirmed}
 
 -- only a good record has a state
 abbrev pub stateIn : Verdict → Answered Queried
-stateIn NotGood = notFound 8
-stateIn (Good q state) = found state
+stateIn v = ifGood (λ q state. found state) (notFound 8) v
 
 -- 8: no good record names the slot
 abbrev pub stateAt : List Reading → Holder → Answered Queried

@@ -46,8 +46,8 @@ fn state_naming(readings: [Reading; 2], n: u32, slot: Slot) -> Queried
     let reading = readings[k];
     let verdict = reading.verdict;
     match verdict {
-        Verdict::None => Queried::Refused(NOT_NAMED),
         Verdict::Good(_, state) => Queried::Found(state),
+        _ => Queried::Refused(NOT_NAMED),
     }
 }
 

@@ -210,20 +210,17 @@ fn aborted(settings: Settings, reading: Reading) -> Reading
     with_state(reading, State::Aborted)
 }
 
-// A good record in another state.
+// A good record in another state; any other stays as it is.
 fn with_state(reading: Reading, state: State) -> Reading
     ensures { λ r. ⌜ r ≡ readingIn state reading ⌝ }
 {
     let verdict = reading.verdict;
     let label = reading.label;
     match verdict {
-        Verdict::None => Reading {
-            verdict: Verdict::None,
-            label,
-        },
         Verdict::Good(sequence, _) => Reading {
             verdict: Verdict::Good(sequence, state),
             label,
         },
+        _ => reading,
     }
 }

@@ -6,15 +6,14 @@ use mathlib.Core.Bool.{Bool, true, false, cond}
 use mathlib.Core.List.{List}
 use mathlib.Core.Logic.{inl, inr}
 use native.Mathlib.Omega.{arith}
-use lib.Dec.{leb}
+use lib.Dec.{eqb, leb}
 use lib.ListN.{length, getD, replicate}
 use borrow.Author.Tests.{eqb-true, leb-true}
 use Rattle.otadata.specs.declared.Slot.{Slot}
 use Rattle.otadata.specs.declared.Sequence.{Sequence}
 use Rattle.otadata.specs.declared.State.{State}
 use Rattle.otadata.specs.declared.State.the-variants.{New, Pending, Undefined}
-use Rattle.otadata.specs.declared.Verdict.{Verdict}
-use Rattle.otadata.specs.declared.Verdict.the-variants.{None as NotGood, Good}
+use Rattle.otadata.specs.declared.Verdict.the-variants.{Good}
 use Rattle.otadata.specs.declared.Reading.{Reading}
 use Rattle.otadata.specs.declared.Made.{Made}
 use Rattle.sectors.specs.declared.Holder.{Holder}
@@ -45,7 +44,8 @@ use Rattle.slot_records.specs.declared.Placement.the-variants.{At}
 use Rattle.slot_records.specs.Placing.{freeSector, placement, activeSequence, Placed, PlacementLaw}
 use Rattle.update.specs.SetBoot.{newState, newRecord}
 use Rattle.update_laws.specs.Laws.{Points, SetsBoot}
-use Rattle.otadata.proofs.Booleans.{true-is-not-false, both}
+use Rattle.otadata.proofs.Booleans.{both}
+use Rattle.otadata.proofs.Verdicts.{good-so}
 use Rattle.otadata.proofs.RecordFields.{record-length}
 use Rattle.sectors.proofs.Restating.{fields-made, fields-read}
 use Rattle.sectors.proofs.Activity.{active-below-two, active-usable, none-usable, only-usable, higher-usable}
@@ -181,24 +181,24 @@ module _ (list o : List ℕ) (settings : Settings) (s : Slot) (k : ℕ) (named :
   is-active : active (readingsOf o) ≡ Sector k
   is-active = naming-is-active (slotCount list) s (readingsOf o) k named
 
-  points-by : (v : Verdict) → sectorReading (sectorAt k o) .verdict ≡ v → names (slotCount list) s v ≡ true → SetsBoot list o o settings s
-  points-by NotGood e n = absurd (true-is-not-false false n refl)
-  points-by (Good q state) e n =
+  points-by : names (slotCount list) s (sectorReading (sectorAt k o) .verdict) ≡ true → SetsBoot list o o settings s
+  points-by n =
+      let g = good-so (λ q state. eqb (namesSlot (slotCount list) q .0) (s .0)) (sectorReading (sectorAt k o) .verdict) n in
       record {
         sector = k;
-        sequence = q;
+        sequence = g .sequence;
         points = record {
-          state = state;
+          state = g .state;
           is-active = is-active;
-          holds = e;
-          names = ap (λ (i : ℕ). record { 0 = i }) (eqb-true (namesSlot (slotCount list) q .0) (s .0) n);
+          holds = g .is;
+          names = ap (λ (i : ℕ). record { 0 = i }) (eqb-true (namesSlot (slotCount list) (g .sequence) .0) (s .0) (g .holds));
         };
         wrote = inl refl;
       }
 
   pub points-already : SetsBoot list o o settings s
   points-already =
-      points-by (sectorReading (sectorAt k o) .verdict) refl
+      points-by
       (subst (λ (r : Reading). names (slotCount list) s (r .verdict) ≡ true) (readings-at k (active-below-two (readingsOf o) k is-active) o noReading)
       (naming-names (slotCount list) s (readingsOf o) k named))
 

@@ -39,7 +39,7 @@ use Rattle.update.specs.Replies.{refusal}
 use Rattle.update.specs.Tests.{slotTest, acceptedSlot, held, examined, unconfirmed}
 use Rattle.update.specs.SetBoot.{placedAt, pointed, setBoot}
 use Rattle.otadata.proofs.Booleans.{true-is-not-false}
-use Rattle.sectors.proofs.Restating.{state-of-word}
+use Rattle.otadata.proofs.States.{state-of-word}
 use Rattle.boot.proofs.ThroughRecords.{passed-facts}
 use Rattle.update_laws.proofs.Pointing.{listed-by}
 

@@ -27,7 +27,8 @@ pub(crate) fn answer(case: &[u8], list: &[u32], flash: &[u8]) -> [u32; 5] {
         2 => [Sequence(a).slot(b).0, 0, 0, 0, 0],
         3 => [ota_efuse_version(a), 0, 0, 0, 0],
         4 => [ota_efuse_raise(a, b), 0, 0, 0, 0],
-        5 | 6 => record(case),
+        5 => read(case),
+        6 => make(case),
         7 => {
             let mut out = [0u32; 2];
             let number = ota_check_list(list, a as usize + 4294967296 * (b as usize), &mut out);
@@ -50,20 +51,32 @@ pub(crate) fn answer(case: &[u8], list: &[u32], flash: &[u8]) -> [u32; 5] {
     }
 }
 
-// The record of a case: read and made again, or made with its label, another sequence and another state.
-fn record(case: &[u8]) -> [u32; 5] {
+// The answer to a record, and the sum of the record made again of what was read.
+fn read(case: &[u8]) -> [u32; 5] {
     let reading = otadata::read(part(case, 16, word_at(case, 12) as usize));
     let verdict = reading.verdict;
     let label = reading.label;
+    match verdict {
+        Verdict::WrongSize => [2, 0, 0, 0, 0],
+        Verdict::Blank => [0, 2, 0, 0, 0],
+        Verdict::BadSequence => [0, 3, 0, 0, 0],
+        Verdict::BadCheck => [0, 4, 0, 0, 0],
+        Verdict::BadState => [0, 5, 0, 0, 0],
+        Verdict::Good(sequence, state) => {
+            let mut rec = [0u8; 32];
+            let number = ota_make_record(sequence.0, &label, state.word(), &mut rec);
+            let again = with_sum(number, &rec);
+            [again[0], 1, sequence.0, state.word(), again[1]]
+        }
+    }
+}
+
+// A record made with the label of the one in the case.
+fn make(case: &[u8]) -> [u32; 5] {
+    let reading = otadata::read(part(case, 16, word_at(case, 12) as usize));
+    let label = reading.label;
     let mut rec = [0u8; 32];
-    let number = match verdict {
-        Verdict::None => 17,
-        Verdict::Good(sequence, state) => if word_at(case, 0) % 256 == 5 {
-            ota_make_record(sequence.0, &label, state.word(), &mut rec)
-        } else {
-            ota_make_record(word_at(case, 4), &label, word_at(case, 8), &mut rec)
-        },
-    };
+    let number = ota_make_record(word_at(case, 4), &label, word_at(case, 8), &mut rec);
     with_sum(number, &rec)
 }
 

@@ -152,15 +152,22 @@ fn reply(case: &Case, list: &[u32], flash: &[u8], otadata: &mut [u8]) -> String 
     format!("{number} {} {} {} {}", out[0], out[1], out[2], out[3])
 }
 
-/// What a sector reads as: its record, or none.
+/// What a sector reads as: its record, or why there is none.
 fn shown(sector: &[u8]) -> String {
-    let mut out = [0; 2];
-    if ffi::read_sector(sector, &mut out) == 0 {
-        return "none".into();
+    let mut out = [9; 3];
+    match (ffi::read_sector(sector, &mut out), out) {
+        (0, [1, sequence, state]) => {
+            let record = Case(sector);
+            assert_eq!([sequence, state], [record.word(0), record.word(24)], "sequence and state of a good record");
+            hex(&sector[..32])
+        }
+        (0, [2, 0, 0]) => "blank".into(),
+        (0, [3, 0, 0]) => "bad-sequence".into(),
+        (0, [4, 0, 0]) => "bad-check".into(),
+        (0, [5, 0, 0]) => "bad-state".into(),
+        (2, [0, 0, 0]) => "wrong-size".into(),
+        (number, out) => panic!("no sector reads as {number} {out:?}"),
     }
-    let record = Case(sector);
-    assert_eq!(out, [record.word(0), record.word(24)], "sequence and state of a good record");
-    hex(&sector[..32])
 }
 
 /// A number that changes with any byte.

@@ -3,7 +3,7 @@
 use crate::tally::Tally;
 use ota_tests::boot::{self, App};
 use ota_tests::ffi;
-use ota_tests::generate::{self, NodeCase, Rule, FLASH_SHARED};
+use ota_tests::generate::{self, Drawn, NodeCase, Rule, FLASH_SHARED};
 use ota_tests::record::{self, State, RECORD_SIZE};
 use ota_tests::refusal::{number_of, Refusal};
 use ota_tests::rng::Rng;
@@ -16,14 +16,18 @@ use std::fmt::{Debug, Write};
 pub fn to_be_met() -> Vec<String> {
     let mut things: Vec<String> = Rule::ALL.iter().map(|rule| format!("check_list: rule {rule:?} broken")).collect();
     things.extend(State::ALL.iter().map(|state| format!("state_query: {state:?}")));
+    for reading in ["good", "blank", "bad sequence", "bad check", "bad state"] {
+        let calls = ["boot", "set_boot", "mark_valid", "mark_invalid", "state_query", "next_slot"];
+        things.extend(calls.map(|call| format!("{call}: a sector reads {reading}")));
+        things.extend([format!("read_sector: {reading}"), format!("read_sector: wrong size, {reading}")]);
+    }
+    things.extend(Drawn::all().iter().map(|drawn| format!("read_sector: {}", drawn.name())));
     things.extend(
         [
             "check_words",
             "check_words: no sequence",
             "check_list: with factory",
             "check_list: without factory",
-            "read_sector: a record",
-            "read_sector: none",
             "read_sector: wrong size",
             "active: sector 0",
             "active: sector 1",
@@ -84,6 +88,7 @@ impl Run {
         self.check_image();
         self.node();
         self.check_words();
+        self.read_drawn();
     }
 
     /// The library has written nothing to the flash.
@@ -144,14 +149,9 @@ impl Run {
         for sector in &sectors {
             let library = with_out(rng, |out| ffi::read_sector(sector, out));
             let reading = sector::read(sector);
-            let model = reading.map_or((0, [0, 0]), |record| (1, [record.sequence, record.state.word()]));
-            assert_same(self.seed, self.case, "read_sector", &inputs, library, model);
-            self.tally.met(match reading {
-                Some(_) => "read_sector: a record",
-                None if sector.len() != SECTOR_SIZE => "read_sector: wrong size",
-                None => "read_sector: none",
-            });
-            self.tally.calls += 1;
+            assert_same(self.seed, self.case, "read_sector", &inputs, library, reading.answer());
+            self.tally.met(format!("read_sector: {}", reading.name()));
+            self.tally.number("read_sector", library.0);
         }
 
         let [first, second] = &sectors;
@@ -163,7 +163,7 @@ impl Run {
         let model = if part.is_empty() { before.to_vec() } else { part.to_vec() };
         self.same("active", &inputs, (number, record.to_vec()), (part.len() as u32, model));
         self.same("active, sectors", &inputs, &sectors, &unchanged);
-        let readings = [sector::read(first), sector::read(second)];
+        let readings = [sector::read(first).good(), sector::read(second).good()];
         self.tally.met(match sector::active(&readings) {
             Some(0) => "active: sector 0",
             Some(_) => "active: sector 1",
@@ -178,6 +178,33 @@ impl Run {
             self.tally.met("active: a sector of wrong size");
         }
         self.tally.calls += 1;
+    }
+
+    /// The reading of a record that is drawn for its faults, in a sector of the right size or another.
+    fn read_drawn(&mut self) {
+        let rng = &mut self.rng;
+        let drawn = rng.pick(&Drawn::all());
+        let mut sector = vec![rng.pick(&[0xFF, 0xFF, 0x00, 0x5A]); SECTOR_SIZE];
+        sector[..RECORD_SIZE].copy_from_slice(&drawn.bytes(rng));
+        if rng.chance(10) {
+            sector.resize(rng.pick(&[0, 1, 31, 32, 33, 4064, 4095, 4097, 4128, 8192]), 0xFF);
+        }
+        let inputs = (drawn, hex(&sector[..sector.len().min(RECORD_SIZE)]) + sizes(&sector));
+        let mut garbage = rng.clone();
+        let (library, bytes) = lend(rng, &sector, |sector| with_out(&mut garbage, |out| ffi::read_sector(sector, out)));
+        let reading = sector::read(&sector);
+        self.same("read_sector", &inputs, library, reading.answer());
+        self.same_bytes("read_sector", &inputs, &bytes, &sector);
+
+        let right_size = sector.len() == SECTOR_SIZE;
+        let expected = if right_size { drawn.reading() } else { "wrong size" };
+        assert_eq!(reading.name(), expected, "the model's reading of {inputs:?}");
+        self.tally.met(format!("read_sector: {expected}"));
+        self.tally.met(match right_size {
+            true => format!("read_sector: {}", drawn.name()),
+            false => format!("read_sector: wrong size, {}", drawn.reading()),
+        });
+        self.tally.number("read_sector", library.0);
     }
 
     /// A single store and a whole rewrite.
@@ -462,6 +489,11 @@ impl Run {
         self.tally.number(call, number);
         if number == 0 || case.list.broken == Some(Rule::SeventeenSlots) {
             self.tally.slots(call, case.list.n);
+        }
+        if number == 0 {
+            for sector in case.otadata.chunks(SECTOR_SIZE) {
+                self.tally.met(format!("{call}: a sector reads {}", sector::read(sector).name()));
+            }
         }
     }
 

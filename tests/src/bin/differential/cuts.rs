@@ -8,7 +8,7 @@ use ota_tests::ffi::{self, Node};
 use ota_tests::generate::{self, plain_node};
 use ota_tests::image::Facts;
 use ota_tests::partition::{self, Partitions};
-use ota_tests::record::{make, Record, State, HIGHEST_SEQUENCE};
+use ota_tests::record::{make, Reading, Record, State, HIGHEST_SEQUENCE};
 use ota_tests::rng::Rng;
 use ota_tests::sector::{self, active, read, readings, OTADATA_SIZE, SECTOR_SIZE, STORES};
 use ota_tests::settings::Settings;
@@ -31,7 +31,9 @@ pub struct Cuts {
     pub cuts: u64,
     pub reads_old: u64,
     pub reads_new: u64,
-    pub reads_none: u64,
+    pub reads_blank: u64,
+    pub reads_bad_sequence: u64,
+    pub reads_bad_check: u64,
     pub starts_rewritten: u64,
     pub starts_untouched: u64,
 }
@@ -43,7 +45,9 @@ pub fn run(seed: u64) -> Cuts {
     for (what, count) in [
         ("the old record", cuts.reads_old),
         ("the new record", cuts.reads_new),
-        ("none", cuts.reads_none),
+        ("a blank record", cuts.reads_blank),
+        ("a bad sequence", cuts.reads_bad_sequence),
+        ("a bad check word", cuts.reads_bad_check),
         ("the rewritten record's app", cuts.starts_rewritten),
         ("the untouched record's app", cuts.starts_untouched),
     ] {
@@ -176,7 +180,7 @@ impl Setup {
         otadata[(1 - number) * SECTOR_SIZE..][..SECTOR_SIZE].copy_from_slice(&sector_with(*other, 0xFF));
         let model = otadata.clone();
         let setup = Setup { list, flash, partitions, settings, number, otadata, model };
-        let untouched = Record::read(other).unwrap();
+        let untouched = Record::read(other).good().unwrap();
         assert!(untouched.usable() && setup.passing(&untouched).is_some());
         assert!(!(settings.rollback != 0 && untouched.state == State::Pending));
         setup
@@ -224,19 +228,23 @@ impl Setup {
         cuts.cuts += 1;
 
         // The sector reads exactly as the old record, exactly as the new one, or as none; as the new one when finished.
+        // The state is never the reason for none: where the sequence isn't whole, the check word isn't its own.
         let sector = self.sector();
-        let mut out = [9; 2];
+        let mut out = [9; 3];
         let found = ffi::read_sector(sector, &mut out);
         let reading = read(sector);
-        let expected = reading.map_or((0, [0, 0]), |record| (1, [record.sequence, record.state.word()]));
-        assert_eq!((found, out), expected, "{}", context());
+        assert_eq!((found, out), reading.answer(), "{}", context());
         match reading {
-            Some(_) if sector[..32] == *new => cuts.reads_new += 1,
-            Some(_) => {
-                assert!(read(before).is_some() && sector[..32] == before[..32], "neither old nor new: {}", context());
+            Reading::Good(_) if sector[..32] == *new => cuts.reads_new += 1,
+            Reading::Good(_) => {
+                let was_good = read(before).good().is_some();
+                assert!(was_good && sector[..32] == before[..32], "neither old nor new: {}", context());
                 cuts.reads_old += 1;
             }
-            None => cuts.reads_none += 1,
+            Reading::Blank => cuts.reads_blank += 1,
+            Reading::BadSequence => cuts.reads_bad_sequence += 1,
+            Reading::BadCheck => cuts.reads_bad_check += 1,
+            Reading::BadState | Reading::WrongSize => panic!("{}: {}", reading.name(), context()),
         }
         if cut == STORES {
             assert_eq!(sector[..32], *new, "the rewrite is finished: {}", context());

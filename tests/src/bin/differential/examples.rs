@@ -1,4 +1,5 @@
-//! The examples of document 01, and those of document 02 with nine slots and more, held on both sides: the model and the library.
+//! The examples of document 01, and those of document 02 with nine slots and more and of why a sector is empty, held on
+//! both sides: the model and the library.
 
 use crate::calls::plain;
 use ota_tests::boot::{self, App, Started};
@@ -6,7 +7,7 @@ use ota_tests::ffi::{self, Node};
 use ota_tests::generate::{plain_image, plain_node, two_sectors};
 use ota_tests::record::{self, State};
 use ota_tests::refusal::number_of;
-use ota_tests::{image, partition, settings, update};
+use ota_tests::{image, partition, sector, settings, update};
 use std::time::Instant;
 
 const ROLLBACK: ffi::Settings = ffi::Settings { chip_id: 0, efuse: 0, rollback: 1, anti_rollback: 0 };
@@ -14,6 +15,7 @@ const ROLLBACK: ffi::Settings = ffi::Settings { chip_id: 0, efuse: 0, rollback: 
 pub fn run() -> usize {
     let examples = [
         records,
+        readings,
         set_boot_sequences,
         boot_through_sequence_4,
         boot_of_the_last_slot,
@@ -45,6 +47,69 @@ fn records() {
     let mut made = [0; 32];
     assert_eq!(ffi::make_record(1, &[0xFF; 20], 0xFFFF_FFFF, &mut made), 0);
     both(Ok(made), record::make(1, &[0xFF; 20], 0xFFFF_FFFF), Ok(bytes));
+}
+
+/// The reading of a sector, erased after its record or not: number and three values.
+fn read_both(record: &[u8; 32], expected: (u32, [u32; 3])) {
+    for rest in [0xFF, 0x00] {
+        let mut bytes = vec![rest; 4096];
+        bytes[..32].copy_from_slice(record);
+        read_sector_both(&bytes, expected);
+    }
+}
+
+fn read_sector_both(bytes: &[u8], expected: (u32, [u32; 3])) {
+    let mut out = [9; 3];
+    let number = ffi::read_sector(bytes, &mut out);
+    both((number, out), sector::read(bytes).answer(), expected);
+}
+
+/// The good record, and why a sector holds none: the first reason that applies.
+fn readings() {
+    const BLANK: (u32, [u32; 3]) = (0, [2, 0, 0]);
+    const BAD_SEQUENCE: (u32, [u32; 3]) = (0, [3, 0, 0]);
+    const BAD_CHECK: (u32, [u32; 3]) = (0, [4, 0, 0]);
+    const BAD_STATE: (u32, [u32; 3]) = (0, [5, 0, 0]);
+    const WRONG_SIZE: (u32, [u32; 3]) = (2, [0, 0, 0]);
+
+    let first = made(1, State::Undefined).unwrap();
+    read_both(&first, (0, [1, 1, 0xFFFF_FFFF]));
+    read_both(&made(4_294_967_294, State::Aborted).unwrap(), (0, [1, 4_294_967_294, 4]));
+    // Blank, and one bit less: of the sequence, then elsewhere.
+    read_both(&[0xFF; 32], BLANK);
+    for bit in 0..256 {
+        let mut bytes = [0xFF; 32];
+        bytes[bit / 8] ^= 1 << (bit % 8);
+        read_both(&bytes, if bit < 32 { BAD_CHECK } else { BAD_SEQUENCE });
+    }
+    read_both(&[0; 32], BAD_SEQUENCE);
+    // Sequence, check word and state, each right or wrong.
+    for (sequence, check, state, expected) in [
+        (0, 0, 2, BAD_SEQUENCE),
+        (0, 1, 2, BAD_SEQUENCE),
+        (0, 0, 5, BAD_SEQUENCE),
+        (0, 1, 5, BAD_SEQUENCE),
+        (0xFFFF_FFFF, 0, 2, BAD_SEQUENCE),
+        (0xFFFF_FFFF, 1, 2, BAD_SEQUENCE),
+        (0xFFFF_FFFF, 0, 5, BAD_SEQUENCE),
+        (0xFFFF_FFFF, 1, 5, BAD_SEQUENCE),
+        (7, 1, 2, BAD_CHECK),
+        (7, 1, 5, BAD_CHECK),
+        (7, 0, 5, BAD_STATE),
+        (7, 0, 2, (0, [1, 7, 2])),
+    ] {
+        let mut bytes = record::raw_bytes(sequence, &[0xFF; 20], state);
+        bytes[28] ^= check;
+        read_both(&bytes, expected);
+    }
+    // The size is tested before all.
+    for record in [first, [0xFF; 32], [0; 32]] {
+        for length in [0, 31, 32, 33, 4095, 4097, 8192] {
+            let mut bytes = record.to_vec();
+            bytes.resize(length, 0xFF);
+            read_sector_both(&bytes, WRONG_SIZE);
+        }
+    }
 }
 
 fn set_boot_sequences() {

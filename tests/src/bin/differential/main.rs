@@ -44,7 +44,9 @@ fn main() {
     );
     println!("{:>9}  the sector reads as the old record", cuts.reads_old);
     println!("{:>9}  as the new record", cuts.reads_new);
-    println!("{:>9}  as none", cuts.reads_none);
+    println!("{:>9}  as none, blank", cuts.reads_blank);
+    println!("{:>9}  as none, bad sequence", cuts.reads_bad_sequence);
+    println!("{:>9}  as none, bad check", cuts.reads_bad_check);
     println!("{:>9}  boot starts the rewritten sector's app", cuts.starts_rewritten);
     println!("{:>9}  the untouched sector's app", cuts.starts_untouched);
     println!();

@@ -6,8 +6,9 @@ use std::collections::BTreeMap;
 pub const AT_LEAST: u64 = 50;
 
 /// The numbers of document 01's table, by the calls that can give them.
-const NUMBERS: [(&str, &[u32]); 12] = [
+const NUMBERS: [(&str, &[u32]); 13] = [
     ("make_record", &[0, 17]),
+    ("read_sector", &[0, 2]),
     ("store", &[0, 2, 12]),
     ("rewrite", &[0, 2]),
     ("check_list", &[0, 1]),

@@ -14,9 +14,6 @@ returns c = search not-usable
 enum-known-verdict : tie.Need-enum-known-verdict
 enum-known-verdict c = search needs
 
-enum-told : tie.Need-enum-told
-enum-told c = search needs
-
 returns-2 : tie.Need-returns-2
 returns-2 c = search not-good
 
@@ -26,8 +23,8 @@ slot-requires c κs = search needs
 passes-requires : tie.Need-passes-requires
 passes-requires c κs = search needs
 
-enum-told-2 : tie.Need-enum-told-2
-enum-told-2 c = search needs
+enum-told : tie.Need-enum-told
+enum-told c = search needs
 
 enum-known-tried : tie.Need-enum-known-tried
 enum-known-tried c = search needs
@@ -45,11 +42,10 @@ through-record-spec =
     usable-requires
     returns
     enum-known-verdict
-    enum-told
     returns-2
     slot-requires
     passes-requires
-    enum-told-2
+    enum-told
     enum-known-tried
     returns-3
     returns-4)

@@ -1,12 +1,9 @@
 -- `otadata::records::in_state` meets its contract.
 -- Assumes nothing.
-use Rattle.otadata.proofs.Making.{word-decides}
+use Rattle.otadata.proofs.Making.{not-in-state, word-decides}
 use borrow.Author.Needs.{needs}
 use Rattle.otadata.proofs.records.in_state.Statement.{statement}
 use Rattle.otadata.proofs.records.in_state.Tie as tie
-
-enum-told : tie.Need-enum-told
-enum-told c = search needs
 
 enum-known-verdict : tie.Need-enum-known-verdict
 enum-known-verdict c = search needs
@@ -18,12 +15,10 @@ word-requires-2 : tie.Need-word-requires-2
 word-requires-2 c κs = search needs
 
 returns : tie.Need-returns
-returns c = search needs
+returns c = search word-decides
 
 returns-2 : tie.Need-returns-2
-returns-2 c = search word-decides
+returns-2 c = search not-in-state
 
 pub in-state-spec : {M : Type 1} → statement M
-in-state-spec =
-    tie.close
-    (tie.spec enum-told enum-known-verdict word-requires word-requires-2 returns returns-2)
+in-state-spec = tie.close (tie.spec enum-known-verdict word-requires word-requires-2 returns returns-2)

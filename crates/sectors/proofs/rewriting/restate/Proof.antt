@@ -11,14 +11,11 @@ read-sector-requires c κs = search needs
 enum-known-verdict : tie.Need-enum-known-verdict
 enum-known-verdict c = search needs
 
-enum-told : tie.Need-enum-told
-enum-told c = search needs
-
 same-length : tie.Need-same-length
 same-length c = search needs
 
 returns : tie.Need-returns
-returns c = nothing-restated _ _ _ (c .before .before .read-sector .ensures) (c .enum-told .given .1)
+returns c = nothing-restated _ _ _ (c .before .read-sector .ensures) (c .match .keys2)
 
 word-requires : tie.Need-word-requires
 word-requires c κs = search needs
@@ -46,7 +43,6 @@ restate-spec =
     (tie.spec
     read-sector-requires
     enum-known-verdict
-    enum-told
     same-length
     returns
     word-requires

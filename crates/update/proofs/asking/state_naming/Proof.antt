@@ -32,17 +32,14 @@ array-copy-out-reading c =
     let named = told .before .before in
     omega (arith, record-below-two _ _ _ _ (sym (named .naming-record .ensures) ∙ told .holder .given .1))
 
-enum-told-2 : tie.Need-enum-told-2
-enum-told-2 c = search needs
-
 enum-known-verdict : tie.Need-enum-known-verdict
 enum-known-verdict c = search needs
 
 returns-2 : tie.Need-returns-2
-returns-2 c = search no-state
+returns-2 c = search state-found
 
 returns-3 : tie.Need-returns-3
-returns-3 c = search state-found
+returns-3 c = search no-state
 
 pub state-naming-spec : {M : Type 1} → statement M
 state-naming-spec =
@@ -54,7 +51,6 @@ state-naming-spec =
     returns
     mul-reading
     array-copy-out-reading
-    enum-told-2
     enum-known-verdict
     returns-2
     returns-3)
