@@ -66,7 +66,7 @@ good rec =
     && eqb (checkField rec) (checkWord (sequenceField rec))
     && isState (stateField rec)
 
--- every byte is 0xFF
+-- every byte is 0xFF; of a whole record this is document 01's term *blank*
 unfoldable pub allFF : List ℕ → Bool
 allFF [] = true
 allFF (b ∷ rec) = eqb b 255 && allFF rec
