@@ -28,7 +28,6 @@ use Rattle.boot_choice.specs.Choice.{choice}
 use Rattle.otadata.specs.Records.{goodVerdict}
 use Rattle.boot.specs.Boot.{view, marked, usedSector, awaiting, anyGood, registerAfter, replyTo, fromMarks, byTests, boot, passedTests, Accepts}
 use Rattle.otadata.proofs.Booleans.{true-is-not-false}
-use Rattle.otadata.proofs.Verdicts.{NotGood, not-good-has}
 use Rattle.boot.proofs.ChoiceLaws.{Sound, nothing, through, by-factory, found, choice-sound}
 use Rattle.boot.proofs.TestLaws.{tests-decide, where-accepted}
 use Rattle.boot_choice.proofs.Tries.{first-is-so, second-decides}
@@ -36,9 +35,6 @@ use Rattle.boot.proofs.Marking.{marked-size}
 use Rattle.sectors.specs.Sectors.{readingsOf}
 
 -- ---- step 4
-
-pub not-good : (r : Reading) → NotGood (r .verdict) → false ≡ goodVerdict (r .verdict)
-not-good r n = sym (not-good-has _ _ (r .verdict) n)
 
 module _ (rs : List Reading) (size : length rs ≡ 2) (d : Reading) (t : Bool) (tested : t ≡ goodVerdict (getD rs 0 d .verdict)) where
   pub first-good : t ≡ true → true ≡ anyGood rs

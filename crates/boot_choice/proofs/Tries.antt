@@ -11,7 +11,7 @@ use borrow.Author.Tests.{not-true, not-false}
 use denote.Ref.{RefT, now}
 use Rattle.otadata.specs.Answers.{viewed}
 use Rattle.otadata.proofs.Answers.{reply-of}
-use Rattle.otadata.proofs.Verdicts.{NotGood, not-good-has, by-verdict}
+use Rattle.otadata.proofs.Verdicts.{NotGood, not-good-has, good-so}
 use Rattle.otadata.specs.declared.Slot.{Slot}
 use Rattle.otadata.specs.declared.Sequence.{Sequence}
 use Rattle.otadata.specs.declared.State.{State}
@@ -159,22 +159,9 @@ module _ (list flash : List ℕ) (settings : Settings) (rs : List Reading) (h : 
 
 -- ---- the last search
 
-not-good-bars : (v : Verdict) (n : ℕ) (s : Slot) → NotGood v → false ≡ verdictBars n s v
-not-good-bars v n s o = sym (not-good-has _ _ v o)
-
-usable-bars-none : (v : Verdict) (n : ℕ) (s : Slot) → usableVerdict v ≡ true → false ≡ verdictBars n s v
-usable-bars-none v n s y =
-    by-verdict (λ (x : Verdict). usableVerdict x ≡ true → false ≡ verdictBars n s x)
-    (λ x o u. not-good-bars x n s o)
-    (λ q state u. simp u)
-    v y
-
 module _ (r : Reading) (n : ℕ) (s : Slot) (t : Bool) (tested : t ≡ usable r) where
   pub usable-bars : t ≡ true → false ≡ verdictBars n s (r .verdict)
-  usable-bars y = usable-bars-none (r .verdict) n s (sym tested ∙ y)
-
-  pub no-name : NotGood (r .verdict) → false ≡ verdictBars n s (r .verdict)
-  no-name o = not-good-bars (r .verdict) n s o
+  usable-bars y = let g = good-so (λ q state. usableState state) (r .verdict) (sym tested ∙ y) in simp (g .is, g .holds)
 
   pub name-decides : t ≡ false → (q : Sequence) (state : State) → r .verdict ≡ Good q state
       → (slot : Slot) → slot ≡ namesSlot n q → eqb (slot .0) (s .0) ≡ verdictBars n s (r .verdict)

@@ -1,4 +1,4 @@
--- The results of `read`, `usable`, `in_state`, `sequence_of` and `make`, as their tests decide them.
+-- The results of `read`, `usable`, `in_state` and `make`, as their tests decide them.
 -- Assumes nothing.
 use Prim.Native.Nat.{ℕ}
 use mathlib.Core.Path.{_≡_, _∙_, sym, ap}
@@ -13,7 +13,7 @@ use Rattle.otadata.specs.declared.Verdict.the-variants.{Good}
 use Rattle.otadata.specs.declared.Reading.{Reading}
 use Rattle.otadata.specs.declared.Made.{Made}
 use Rattle.otadata.specs.Answers.{viewed}
-use Rattle.otadata.specs.Records.{labelField, stateWord, good, read, view, reading, goodVerdict, usableState, usableVerdict, usable, inState, sequenceIn, recordOf, made}
+use Rattle.otadata.specs.Records.{labelField, stateWord, good, read, view, reading, goodVerdict, usableState, usableVerdict, usable, inState, recordOf, made}
 use Rattle.otadata.specs.Verdicts.{GoodLaw}
 use Rattle.otadata.proofs.Goodness.{is-good}
 use Rattle.otadata.proofs.Verdicts.{NotGood, not-good-has}
@@ -37,16 +37,6 @@ module _ (rec : List ℕ) (v : Verdict) (found : v ≡ reading rec .verdict) whe
     record-read label is = answered label (is ∙ sym (ap (λ (x : Verdict). labelled rec x .label) e))
 
 -- ---- what only a good record has
-
-module _ (r : Reading) (n : NotGood (r .verdict)) where
-  pub not-usable : false ≡ usable r
-  not-usable = sym (not-good-has _ _ (r .verdict) n)
-
-  pub not-in-state : (state : State) → false ≡ inState state (r .verdict)
-  not-in-state state = sym (not-good-has _ _ (r .verdict) n)
-
-  pub no-sequence : record { 0 = 0 } ≡ sequenceIn (r .verdict)
-  no-sequence = sym (not-good-has _ _ (r .verdict) n)
 
 module _ (r : Reading) (q : Sequence) (its : State) (e : r .verdict ≡ Good q its) where
   pub state-usable : (b : Bool) → b ≡ usableState its → b ≡ usable r

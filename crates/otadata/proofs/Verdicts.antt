@@ -1,7 +1,7 @@
 -- A verdict that is not good, as a `let .. else` finds it, and what holds of every verdict.
 -- Assumes nothing.
 use Prim.Native.Nat.{ℕ}
-use mathlib.Core.Path.{_≡_, refl}
+use mathlib.Core.Path.{_≡_, refl, sym}
 use mathlib.Core.Bool.{Bool, true, false}
 use mathlib.Core.List.{List, [], _∷_}
 use denote.Enum.Declared.{tagOf}
@@ -10,6 +10,7 @@ use Rattle.otadata.specs.declared.Sequence.{Sequence}
 use Rattle.otadata.specs.declared.State.{State}
 use Rattle.otadata.specs.declared.Verdict.{Verdict}
 use Rattle.otadata.specs.declared.Verdict.the-variants.{WrongSize, Blank, BadSequence, BadCheck, BadState, Good}
+use Rattle.otadata.specs.declared.Reading.{Reading}
 use Rattle.otadata.specs.Records.{ifGood}
 use Rattle.otadata.proofs.Verdict.{the-type}
 use Rattle.otadata.proofs.Booleans.{true-is-not-false}
@@ -29,6 +30,10 @@ not-good-has value other BadSequence n = refl
 not-good-has value other BadCheck n = refl
 not-good-has value other BadState n = refl
 not-good-has value other (Good q s) n = absurd (miss places 5 tt n)
+
+-- the same, as a `match` on the verdict of a reading finds it
+pub other-of : {A : Type 0} (value : Sequence → State → A) (other : A) (r : Reading) → NotGood (r .verdict) → other ≡ ifGood value other (r .verdict)
+other-of value other r n = sym (not-good-has value other (r .verdict) n)
 
 -- what holds of those and of a good one holds of every verdict
 pub by-verdict : (P : Verdict → Type 0) → ((v : Verdict) → NotGood v → P v) → ((q : Sequence) (s : State) → P (Good q s)) → (v : Verdict) → P v

@@ -17,14 +17,10 @@ use Rattle.sectors.specs.declared.Holder.{Holder}
 use Rattle.sectors.specs.declared.Holder.the-variants.{None, Sector}
 use Rattle.otadata.specs.Records.{namesSlot, noReading, sequenceIn, inState}
 use Rattle.sectors.specs.Sectors.{higherOf, active}
-use Rattle.otadata.proofs.Verdicts.{NotGood, not-good-has}
 use Rattle.sectors.proofs.Activity.{default, higher-by, by-usable, active-below-two}
 use Rattle.slot_records.specs.Naming.{names, ifNames, activeNaming, highestNaming, orHolder, namingRecord, activePending}
 
 -- ---- one record
-
-pub no-name : (r : Reading) → NotGood (r .verdict) → (n : ℕ) (s : Slot) → false ≡ names n s (r .verdict)
-no-name r o n s = sym (not-good-has _ _ (r .verdict) o)
 
 pub slot-decides : (r : Reading) (q : Sequence) (state : State) → r .verdict ≡ Good q state
     → (n : ℕ) (s slot : Slot) → slot ≡ namesSlot n q → eqb (slot .0) (s .0) ≡ names n s (r .verdict)

@@ -1,6 +1,7 @@
 -- `boot_choice::choosing::bars` meets its contract.
 -- Assumes nothing.
-use Rattle.boot_choice.proofs.Tries.{usable-bars, no-name, name-decides}
+use Rattle.otadata.proofs.Verdicts.{other-of}
+use Rattle.boot_choice.proofs.Tries.{usable-bars, name-decides}
 use borrow.Author.Needs.{needs}
 use Rattle.boot_choice.proofs.choosing.bars.Statement.{statement}
 use Rattle.boot_choice.proofs.choosing.bars.Tie as tie
@@ -21,7 +22,7 @@ returns-2 : tie.Need-returns-2
 returns-2 c = search name-decides
 
 returns-3 : tie.Need-returns-3
-returns-3 c = search no-name
+returns-3 c = search other-of
 
 pub bars-spec : {M : Type 1} → statement M
 bars-spec = tie.close (tie.spec usable-requires returns enum-known-verdict slot-requires returns-2 returns-3)
