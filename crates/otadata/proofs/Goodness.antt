@@ -2,15 +2,15 @@
 -- Assumes nothing.
 use Prim.Native.Nat.{ℕ, _≤_}
 use mathlib.Core.Path.{_≡_}
-use mathlib.Core.Bool.{Bool, true, false, not, _&&_}
-use mathlib.Core.List.{List}
+use mathlib.Core.Bool.{Bool, true, false, cond, not, _&&_}
+use mathlib.Core.List.{List, [], _∷_}
 use lib.Dec.{eqb, leb}
 use lib.ListN.{length}
 use borrow.Author.Tests.{eq-eqb, ne-eqb, not-true, not-false, eqb-true, leb-true}
 use Rattle.otadata.specs.Words.{checkWord}
 use Rattle.otadata.specs.declared.State.{State}
 use Rattle.otadata.specs.declared.Verdict.the-variants.{WrongSize, Blank, BadSequence, BadCheck, BadState, Good}
-use Rattle.otadata.specs.Records.{sequenceField, stateField, checkField, stateOf, isSequence, isState, good, allFF, read, reading}
+use Rattle.otadata.specs.Records.{sequenceField, stateField, checkField, stateOf, isSequence, isState, good, allFF, notGood, goodRecord, read, reading}
 use Rattle.otadata.proofs.Booleans.{both}
 
 -- ---- what a good record is
@@ -65,42 +65,15 @@ module _ (rec : List ℕ) where
         bad-check n =
             simp (reading, eq-eqb _ _ size, ← erased, written, ← sequence-read, ← tested, not-false t in-range, ← check-read, ← checked, ne-eqb _ _ n)
 
-        module _ (e : w ≡ k) (s : ℕ) (state-read : s ≡ stateField rec) (d : Bool) (decided : d ≡ isState s) where
-          pub bad-state : not d ≡ true → BadState ≡ reading rec .verdict
+        module _ (e : w ≡ k) where
+          past-check : read rec ≡ cond (not (isState (stateField rec))) (notGood 0 (5 ∷ []) BadState) (goodRecord rec)
           unfolding read
-          bad-state n =
-              simp (
-                reading,
-                eq-eqb _ _ size,
-                ← erased,
-                written,
-                ← sequence-read,
-                ← tested,
-                not-false t in-range,
-                ← check-read,
-                ← checked,
-                eq-eqb _ _ e,
-                ← state-read,
-                ← decided,
-                not-true d n,
-              )
+          past-check =
+              simp (eq-eqb _ _ size, ← erased, written, ← sequence-read, ← tested, not-false t in-range, ← check-read, ← checked, eq-eqb _ _ e)
 
-          pub all-right : not d ≡ false → (state : State) → state ≡ stateOf s → Good (record { 0 = q }) state ≡ reading rec .verdict
-          unfolding read
-          all-right y state is =
-              simp (
-                reading,
-                is,
-                eq-eqb _ _ size,
-                ← erased,
-                written,
-                ← sequence-read,
-                ← tested,
-                not-false t in-range,
-                ← check-read,
-                ← checked,
-                eq-eqb _ _ e,
-                ← state-read,
-                ← decided,
-                not-false d y,
-              )
+          module _ (s : ℕ) (state-read : s ≡ stateField rec) (d : Bool) (decided : d ≡ isState s) where
+            pub bad-state : not d ≡ true → BadState ≡ reading rec .verdict
+            bad-state n = simp (reading, past-check, ← state-read, ← decided, not-true d n)
+
+            pub all-right : not d ≡ false → (state : State) → state ≡ stateOf s → Good (record { 0 = q }) state ≡ reading rec .verdict
+            all-right y state is = simp (reading, is, past-check, ← state-read, ← decided, not-false d y, sequence-read)

@@ -73,7 +73,8 @@ module _ (rec : List ℕ) where
         unfolding good
         of-good state =
             let word = word-of-state (stateField rec) state in
-            record { holds = (simp (sized, range, check, state), refl, word); same-good = simp (sized, range, check, state); shape = simp word }
+            let is : good rec ≡ true = simp (sized, range, check, state) in
+            record { holds = (is, refl, word); same-good = sym is; shape = simp word }
 
 found : (rec : List ℕ) → Found rec (read rec)
 unfolding read

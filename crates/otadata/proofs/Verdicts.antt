@@ -22,6 +22,9 @@ places = 0 ∷ 1 ∷ 2 ∷ 3 ∷ 4 ∷ []
 abbrev pub NotGood : Verdict → Type 0
 NotGood v = OneOf places (tagOf the-type v)
 
+pub wrong-size-is-not : NotGood WrongSize
+wrong-size-is-not = hit places 0 tt
+
 -- such a record has nothing of what only a good one has
 pub not-good-has : {A : Type 0} (value : Sequence → State → A) (other : A) (v : Verdict) → NotGood v → ifGood value other v ≡ other
 not-good-has value other WrongSize n = refl
@@ -37,7 +40,7 @@ other-of value other r n = sym (not-good-has value other (r .verdict) n)
 
 -- what holds of those and of a good one holds of every verdict
 pub by-verdict : (P : Verdict → Type 0) → ((v : Verdict) → NotGood v → P v) → ((q : Sequence) (s : State) → P (Good q s)) → (v : Verdict) → P v
-by-verdict P other good WrongSize = other WrongSize (hit places 0 tt)
+by-verdict P other good WrongSize = other WrongSize wrong-size-is-not
 by-verdict P other good Blank = other Blank (hit places 1 tt)
 by-verdict P other good BadSequence = other BadSequence (hit places 2 tt)
 by-verdict P other good BadCheck = other BadCheck (hit places 3 tt)

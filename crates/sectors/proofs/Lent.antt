@@ -1,10 +1,9 @@
 -- A sector of otadata, as a part that is lent by its number, and what is done where there is no such sector.
 -- Assumes nothing.
 use Prim.Native.Nat.{ℕ, _+_, _-_, _*_, _/_, _<_, _≤_}
-use mathlib.Core.Path.{_≡_, _∙_, refl, sym, ap, ap₂, subst}
+use mathlib.Core.Path.{_≡_, _∙_, sym, ap, ap₂, subst}
 use mathlib.Core.Bool.{false}
 use mathlib.Core.List.{List, [], _++_}
-use mathlib.Core.Logic.{inl}
 use native.Mathlib.Omega.{arith}
 use lib.Dec.{eqb}
 use lib.ListN.{length, take, drop, length-take, length-drop}
@@ -15,7 +14,7 @@ use Rattle.otadata.specs.Answers.{viewed}
 use Rattle.otadata.specs.Records.{read, view, reading}
 use Rattle.sectors.specs.Sectors.{recordIn, readSector, sectorReading, Reply, reply, restated, rewrite, sectorAt, withSector, withState, withRecord, rewriteAt}
 use Rattle.otadata.proofs.Answers.{reply-of}
-use Rattle.otadata.proofs.Verdicts.{NotGood}
+use Rattle.otadata.proofs.Verdicts.{NotGood, wrong-size-is-not}
 use Rattle.sectors.proofs.TwoSectors.{with-same, with-state-none, with-state-same}
 
 -- the part that is lent, and otadata with y in its place
@@ -47,7 +46,7 @@ module _ (k : ℕ) (o : List ℕ) where
         → (o ≡ withState state k o) × (r ≡ sectorReading (sectorAt k o))
     unfolding read
     nothing-restated-there state r e =
-        (sym (with-state-none state k o (subst (λ (x : List ℕ). NotGood (reading x .verdict)) (sym no-record-there) (inl refl))), e)
+        (sym (with-state-none state k o (subst (λ (x : List ℕ). NotGood (reading x .verdict)) (sym no-record-there) wrong-size-is-not)), e)
 
     pub nothing-rewritten-there : (rec : List ℕ) → reply 2 o ≡ rewriteAt k o rec
     unfolding rewriteAt withRecord rewrite

@@ -25,7 +25,7 @@ use Rattle.boot.specs.Boot.{markedAt, marked, replyTo, boot, Accepts}
 use Rattle.boot.proofs.Replies.{replies}
 use Rattle.boot.proofs.Marking.{marked-at-size}
 use Rattle.update.specs.Marks.{choosesNothing}
-use Rattle.update.specs.Fallback.{verdictIn, readingIn, abortedReading, abortedReadings, fallsBack}
+use Rattle.update.specs.Fallback.{readingIn, abortedReading, abortedReadings, fallsBack}
 use Rattle.sectors.proofs.TwoSectors.{with-state-none, with-state-size, with-state-reading, tested-other, readings-at, readings-replaced}
 
 -- ---- as the code makes the readings
@@ -67,19 +67,15 @@ chosen-falls-back list flash settings rs size k l d invalid i left is c chose t 
 -- ---- what the sectors then read as
 
 module _ (state : State) (k : ℕ) (l : k < 2) (o : List ℕ) (size : length o ≡ 8192) where
-  reading-by : (v : Verdict) → sectorReading (sectorAt k o) .verdict ≡ v
-      → sectorReading (sectorAt k (withState state k o)) ≡ record { verdict = verdictIn state v; label = sectorReading (sectorAt k o) .label }
-  reading-by =
-      by-verdict
-      (λ (v : Verdict). sectorReading (sectorAt k o) .verdict ≡ v
-      → sectorReading (sectorAt k (withState state k o)) ≡ record { verdict = verdictIn state v; label = sectorReading (sectorAt k o) .label })
-      (λ v n e.
-      ap (λ (x : List ℕ). sectorReading (sectorAt k x)) (with-state-none state k o (subst NotGood (sym e) n))
-      ∙ ap (λ (x : Verdict). record { verdict = x; label = sectorReading (sectorAt k o) .label }) (e ∙ sym (not-good-has _ v v n)))
-      (λ q old e. with-state-reading state k o l size q old e)
-
   reading-restated : sectorReading (sectorAt k (withState state k o)) ≡ readingIn state (sectorReading (sectorAt k o))
-  reading-restated = reading-by (sectorReading (sectorAt k o) .verdict) refl
+  reading-restated =
+      let r = sectorReading (sectorAt k o) in
+      by-verdict (λ (v : Verdict). r .verdict ≡ v → sectorReading (sectorAt k (withState state k o)) ≡ readingIn state r)
+      (λ v n e.
+      let not-good = subst NotGood (sym e) n in
+      ap (λ (x : List ℕ). sectorReading (sectorAt k x)) (with-state-none state k o not-good) ∙ not-good-in state r not-good)
+      (λ q old e. with-state-reading state k o l size q old e ∙ good-in state r q old e)
+      (r .verdict) refl
 
 module _ (settings : Settings) (k : ℕ) (l : k < 2) (o : List ℕ) (size : length o ≡ 8192) where
   marked-by : (b : Bool) → sectorReading (sectorAt k (cond b (withState Aborted k o) o))
