@@ -57,13 +57,16 @@ uint32_t ota_check_list(const uint32_t *list, size_t words, size_t flash_len, ui
  * or 20 to 29 with out = {place, 0, 0, 0}. */
 uint32_t ota_check_image(const uint8_t *image, size_t image_len, uint16_t chip_id, uint64_t out[4]);
 
-/* ---- the eFuse register */
+/* ---- the eFuse register
+ *
+ * On chip 0, the ESP32, all its 32 bits count; on every other chip the 16 lowest. */
 
-/* Returns the version that a register holds. */
-uint32_t ota_efuse_version(uint32_t efuse);
+/* Returns the version that a register holds: the number of ones among the bits that count. */
+uint32_t ota_efuse_version(uint16_t chip_id, uint32_t efuse);
 
-/* Returns the register raised to a version. */
-uint32_t ota_efuse_raise(uint32_t efuse, uint32_t version);
+/* Returns the register raised to a version: the lowest clear bits that count are set until it holds the version, or until
+ * all of them are set. The other bits come back as they were. */
+uint32_t ota_efuse_raise(uint16_t chip_id, uint32_t efuse, uint32_t version);
 
 /* ---- the node
  *

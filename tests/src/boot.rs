@@ -108,7 +108,7 @@ fn choose(
         if let Some(facts) = passes(App::Slot(slot)) {
             let mut reply = started(App::Slot(slot), None);
             if settings.anti_rollback && good().next().is_none() {
-                reply.efuse = efuse_raise(settings.efuse, facts.version);
+                reply.efuse = efuse_raise(settings.chip_id, settings.efuse, facts.version);
             }
             return Some(reply);
         }

@@ -30,8 +30,8 @@ mod c {
         pub fn ota_rewrite(sector: *mut u8, len: usize, record: *const u8, record_len: usize) -> u32;
         pub fn ota_check_list(list: *const u32, words: usize, flash_len: usize, out: *mut u32) -> u32;
         pub fn ota_check_image(image: *const u8, len: usize, chip_id: u16, out: *mut u64) -> u32;
-        pub fn ota_efuse_version(efuse: u32) -> u32;
-        pub fn ota_efuse_raise(efuse: u32, version: u32) -> u32;
+        pub fn ota_efuse_version(chip_id: u16, efuse: u32) -> u32;
+        pub fn ota_efuse_raise(chip_id: u16, efuse: u32, version: u32) -> u32;
         pub fn ota_boot(
             list: *const u32,
             words: usize,
@@ -152,12 +152,12 @@ pub fn check_image(image: &[u8], chip_id: u16, out: &mut [u64; 4]) -> u32 {
     unsafe { c::ota_check_image(image.as_ptr(), image.len(), chip_id, out.as_mut_ptr()) }
 }
 
-pub fn efuse_version(efuse: u32) -> u32 {
-    unsafe { c::ota_efuse_version(efuse) }
+pub fn efuse_version(chip_id: u16, efuse: u32) -> u32 {
+    unsafe { c::ota_efuse_version(chip_id, efuse) }
 }
 
-pub fn efuse_raise(efuse: u32, version: u32) -> u32 {
-    unsafe { c::ota_efuse_raise(efuse, version) }
+pub fn efuse_raise(chip_id: u16, efuse: u32, version: u32) -> u32 {
+    unsafe { c::ota_efuse_raise(chip_id, efuse, version) }
 }
 
 /// Calls a function on a node: its slices, then its settings, then what else it takes.

@@ -6,6 +6,7 @@ use crate::partition::{FLASH_MAX, SLOTS_MAX, SLOTS_MIN};
 use crate::record::{check_word, raw_bytes, State, HIGHEST_SEQUENCE, LABEL_SIZE, RECORD_SIZE};
 use crate::rng::Rng;
 use crate::sector::{self, OTADATA_SIZE, SECTOR_SIZE};
+use crate::settings::efuse_width;
 
 const PAGE: usize = 4_096;
 const BLOCK: usize = 65_536;
@@ -22,9 +23,14 @@ pub fn plain_image(chip_id: u16, version: u32, length: usize, digest: bool) -> V
     build_image(chip_id, 0x4008_0000, &[data], digest)
 }
 
-/// A list and flash with a slot of 4,096 bytes for each item, and factory where it is given. A slot holds a plain image of
-/// that version, or erased bytes.
+/// A node of chip 0.
 pub fn plain_node(slots: &[Option<u32>], factory: Option<u32>) -> (Vec<u32>, Vec<u8>) {
+    plain_node_of(0, slots, factory)
+}
+
+/// A list and flash with a slot of 4,096 bytes for each item, and factory where it is given. A slot holds a plain image for
+/// that chip with that version, or erased bytes.
+pub fn plain_node_of(chip_id: u16, slots: &[Option<u32>], factory: Option<u32>) -> (Vec<u32>, Vec<u8>) {
     let apps = slots.iter().zip(16..).map(|(version, subtype)| (subtype, *version));
     let apps: Vec<_> = apps.chain(factory.map(|version| (0, Some(version)))).collect();
     let mut list = Vec::new();
@@ -33,7 +39,7 @@ pub fn plain_node(slots: &[Option<u32>], factory: Option<u32>) -> (Vec<u32>, Vec
         let offset = block * BLOCK;
         list.extend([subtype, offset as u32, PAGE as u32]);
         if let Some(version) = version {
-            let image = plain_image(0, version, 256, false);
+            let image = plain_image(chip_id, version, 256, false);
             flash[offset..][..image.len()].copy_from_slice(&image);
         }
     }
@@ -276,24 +282,30 @@ pub fn wrong_length(rng: &mut Rng, right: usize) -> usize {
 
 // Images.
 
+/// A chip id: as often the one with 32 version bits as another.
 pub fn chip_id(rng: &mut Rng) -> u16 {
     match rng.below(4) {
-        0 => 0,
-        1 => rng.pick(&[2, 5, 9, 0x0D, 0x0100, 0xFFFF]),
+        0 | 1 => 0,
+        2 => rng.pick(&[2, 5, 9, 0x0D, 16, 0x0100, 0xFFFF]),
         _ => rng.word() as u16,
     }
 }
 
-pub fn version(rng: &mut Rng) -> u32 {
-    match rng.below(4) {
-        0 => rng.below(33) as u32,
-        1 => rng.below(9) as u32,
+/// A version that the chip can hold.
+fn version(rng: &mut Rng, chip_id: u16) -> u32 {
+    let width = efuse_width(chip_id);
+    match rng.below(8) {
+        0 => rng.below(width as usize + 1) as u32,
+        1 => width - rng.below(2) as u32,
+        2 | 3 => rng.below(9) as u32,
         _ => rng.below(5) as u32,
     }
 }
 
-fn version_too_high(rng: &mut Rng) -> u32 {
-    rng.pick(&[33, 34, 64, 255, 256, 0x0100_0000, 0x8000_0001, 0xFFFF_FFFF])
+/// A version that it can't: one or two above, or far above.
+fn version_too_high(rng: &mut Rng, chip_id: u16) -> u32 {
+    let width = efuse_width(chip_id);
+    rng.pick(&[width + 1, width + 1, width + 2, 2 * width, 33, 255, 256, 0x0100_0000, 0x8000_0001, 0xFFFF_FFFF])
 }
 
 /// What is wrong with an image.
@@ -356,9 +368,9 @@ fn random_image(rng: &mut Rng, chip_id: u16, mut lengths: Vec<usize>, digest: bo
     if has(ShortFirstSegment) {
         lengths[0] = rng.pick(&[0, 4, 128, 248, 252]);
     }
-    let mut version = version(rng);
+    let mut version = version(rng, chip_id);
     if has(Version) {
-        version = version_too_high(rng);
+        version = version_too_high(rng, chip_id);
     }
     let zeros = rng.chance(30);
     let mut segments: Vec<Vec<u8>> = lengths.iter().map(|length| vec![0; *length]).collect();
@@ -733,14 +745,16 @@ fn settings(rng: &mut Rng, factory: bool) -> ffi::Settings {
     ffi::Settings { chip_id: chip_id(rng), efuse: efuse(rng), rollback, anti_rollback }
 }
 
-/// A register: some of the lowest bits, or any.
+/// A register: some of the lowest bits, few bits anywhere or any; now and then with ones in its upper half besides.
 pub fn efuse(rng: &mut Rng) -> u32 {
-    match rng.below(10) {
+    let register = match rng.below(10) {
         0..=4 => (1 << rng.below(5)) - 1,
         5..=7 => (0..rng.below(6)).fold(0, |register, _| register | 1 << rng.below(32)),
         8 => rng.word(),
-        _ => rng.pick(&[0xFFFF_FFFF, 0xFFFF_FFFE, 0x7FFF_FFFF, 0x8000_0000]),
-    }
+        _ => rng.pick(&[0xFFFF_FFFF, 0xFFFF_FFFE, 0x7FFF_FFFF, 0x8000_0000, 0x0000_FFFF, 0x0000_7FFF, 0x0001_FFFF]),
+    };
+    let above = if rng.chance(30) { rng.pick(&[0xFFFF_0000, 0x0001_0000, 0x8000_0000]) } else { 0 };
+    register | above
 }
 
 /// A slot that a record names, most often.

@@ -2,6 +2,7 @@
 
 use crate::record::word_at;
 use crate::refusal::ImageRefusal;
+use crate::settings::efuse_width;
 
 pub const MAGIC: u8 = 0xE9;
 pub const HEADER_SIZE: usize = 24;
@@ -11,7 +12,6 @@ pub const DESCRIPTOR_SIZE: usize = 256;
 pub const DESCRIPTOR_WORD: u32 = 0xABCD_5432;
 pub const DESCRIPTOR_PLACE: usize = 32;
 pub const VERSION_PLACE: usize = 36;
-pub const VERSION_MAX: u32 = 32;
 pub const CHECKSUM_START: u8 = 0xEF;
 pub const DIGEST_SIZE: usize = 32;
 /// The shortest image that isn't refused with 20: header, one segment header and the descriptor.
@@ -57,7 +57,7 @@ pub fn check(image: &[u8], chip_id: u16) -> Result<Facts, ImageRefusal> {
     test(length <= image.len(), 27, end)?;
     test(image[padded - 1] == checksum, 28, padded - 1)?;
     let version = word_at(image, VERSION_PLACE);
-    test(version <= VERSION_MAX, 29, VERSION_PLACE)?;
+    test(version <= efuse_width(chip_id), 29, VERSION_PLACE)?;
     Ok(Facts { length: length as u64, entry: word_at(image, 4), version, segments: count.into() })
 }
 
@@ -112,8 +112,17 @@ mod tests {
     }
 
     #[test]
+    fn versions_and_widths() {
+        let check = |chip_id, version| check(&plain_image(chip_id, version, 256, false), chip_id);
+        for (chip_id, width) in [(0, 32), (5, 16), (16, 16), (0x0100, 16)] {
+            assert_eq!(check(chip_id, width).map(|facts| facts.version), Ok(width));
+            assert_eq!(check(chip_id, width + 1), Err(ImageRefusal { number: 29, place: 36 }));
+        }
+    }
+
+    #[test]
     fn the_lowest_number_is_given() {
-        let image = plain_image(5, 33, 256, false);
+        let image = plain_image(5, 17, 256, false);
         let number = |image: &[u8]| check(image, 5).map_err(|refusal| (refusal.number, refusal.place)).unwrap_err();
         assert_eq!(number(&image), (29, 36));
         let mut worse = image.clone();

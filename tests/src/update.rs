@@ -49,7 +49,7 @@ pub fn mark_valid(
     if record.state != State::Valid {
         rewrite_in(otadata, number, &record.in_state(State::Valid));
     }
-    Ok(if settings.anti_rollback { efuse_raise(settings.efuse, version) } else { settings.efuse })
+    Ok(if settings.anti_rollback { efuse_raise(settings.chip_id, settings.efuse, version) } else { settings.efuse })
 }
 
 /// Marks the running app's record invalid, unless boot would then find nothing.

@@ -1,4 +1,4 @@
-"""Cases of boot and of power cuts, and document 01's rules of boot and demand 3's claim.
+"""Cases of boot and of power cuts, and the rules of documents 01 and 02 of boot and demand 3's claim.
 
 Independent of the Rattle code.
 """
@@ -9,7 +9,7 @@ import struct
 import sys
 
 from cases import LAST, SECTOR, Cases, total
-from layers import FACTORY, add_list, check_image, checksum, listing, raised, slots_in, version
+from layers import FACTORY, add_list, check_image, checksum, listing, raised, slots_in, version, width
 from records import (ABORTED, BLANK, FF, INVALID, LABEL, NEW, PENDING, STATES, UNDEFINED, VALID, add_stores, named, put_store, reading,
                      record, shown, usable)
 
@@ -41,7 +41,7 @@ class Flash:
 
 def passes(places, flash, settings, app):
     found = flash.version(places[app], settings.chip)
-    return found is not None and (not settings.anti or found >= version(settings.efuse))
+    return found is not None and (not settings.anti or found >= version(settings.efuse, settings.chip))
 
 
 def restated(sector, state):
@@ -91,7 +91,7 @@ def boot(words, length, flash, otadata, settings):
     # step 4
     register = settings.efuse
     if settings.anti and chosen in searched and reads == [None, None]:
-        register = raised(register, flash.version(places[app], settings.chip))
+        register = raised(register, flash.version(places[app], settings.chip), settings.chip)
     return Reply(0, app, through, register), b"".join(sectors)
 
 
@@ -276,7 +276,9 @@ def image(secure=3, chip=CHIP, size=256, flag=0, puts=()):
 
 GOOD = list("abcdefghijklmnopq")  # sixteen slots and factory
 IMAGES = {name: image() for name in GOOD}
-IMAGES |= {f"v{secure}": image(secure) for secure in (0, 1, 2, 4, 5, 32)}
+IMAGES |= {f"v{secure}": image(secure) for secure in (0, 1, 2, 4, 5, 16)}
+AROUND = (15, 16, 17, 32, 33)  # the versions on chips 0, 5 and 16
+IMAGES |= {f"v{secure} of {chip}": image(secure, chip) for chip in (0, 5, 16) for secure in AROUND}
 IMAGES |= {
     "other chip": image(chip=OTHER_CHIP),
     "whole": image(size=4048),  # 4,096 bytes, and 16 or 32 bytes more
@@ -296,8 +298,9 @@ BAD = {
     "short": (26, image(size=252)),
     "descriptor": (26, image(puts=[(35, b"\xAC")])),
     "checksum": (28, image(puts=[(303, b"\x00")])),
+    "v17": (29, image(17)),
+    "v32": (29, image(32)),
     "v33": (29, image(33)),
-    "v64": (29, image(64)),
 }
 IMAGES |= {name: made for name, (_, made) in BAD.items()}
 UNITS = {name: unit for unit, name in enumerate(IMAGES)}
@@ -504,14 +507,15 @@ def add_new(cases):
     cases.boot(PLAIN, (record(5, NEW), record(6, PENDING)), (0, 1, 0), writes=())
 
 
-REGISTERS = {0: 0, 1: 0x80000000, 2: 0x00010001, 3: 0x0B, 4: 0xF0000000, 5: 0x1F, 31: LAST - 4, 32: LAST}  # by version
-BY_VERSION = ["v0", "v1", "v2", "a", "v4", "v5", "v32"]
+# by version, on a chip with sixteen bits of it
+REGISTERS = {0: 0xFFFF0000, 1: 0x00018000, 2: 0x00000101, 3: 0x0B, 4: 0xF000F000, 5: 0x1F, 15: LAST - 4, 16: LAST}
+BY_VERSION = ["v0", "v1", "v2", "a", "v4", "v5", "v16"]
 
 
 def add_anti_rollback(cases):
     """An app below the eFuse version does not pass: the active record's, the other one's and those of the search."""
     settings = ANTI._replace(efuse=REGISTERS[3])
-    below_equal_above = (("v0", "a", "v4"), ("v1", "b", "v5"), ("v2", "c", "v32"))
+    below_equal_above = (("v0", "a", "v4"), ("v1", "b", "v5"), ("v2", "c", "v16"))
     for levels in itertools.product(range(3), repeat=3):
         cases.list(listed([names[level] for names, level in zip(below_equal_above, levels)]))
         for sector in (0, 1):
@@ -535,10 +539,10 @@ def add_anti_rollback(cases):
 def add_register(cases):
     """Step 4: a search raises the register to the version of the app it found, with anti-rollback on and no good record."""
     nothing = [(first, second) for first in (BLANK, *DAMAGED.values()) for second in (BLANK, *DAMAGED.values())]
-    for name, version in zip(BY_VERSION, (0, 1, 2, 3, 4, 5, 32)):
+    for name, version in zip(BY_VERSION, (0, 1, 2, 3, 4, 5, 16)):
         cases.list(listed(["v33", name]))
         for v, register in REGISTERS.items():
-            want = (0, 1, None, raised(register, version)) if version >= v else (10, None, None, register)
+            want = (0, 1, None, raised(register, version, CHIP)) if version >= v else (10, None, None, register)
             cases.boot(ANTI._replace(efuse=register), (BLANK, BLANK), want, writes=())
         cases.boot(ROLLBACK._replace(efuse=5), (BLANK, BLANK), (0, 1, None, 5), writes=())
     cases.list(listed(["v4", "v5", "v2"]))
@@ -557,6 +561,27 @@ def add_register(cases):
         cases.boot(ANTI._replace(efuse=0x0B), (BLANK, record(2, state)), (0, 1, 1, 0x0B), writes=[1] if state == NEW else [])
     cases.list(listed(["magic", "v1"], "v5"))  # with anti-rollback off factory leaves it too
     cases.boot(ROLLBACK._replace(efuse=0), (BLANK, BLANK), (0, FACTORY, None, 0), writes=())
+
+
+def add_widths(cases):
+    """Versions around 16, 17 and 32, and registers that hold about as many ones, in the lower half, in the upper and in both."""
+    for chip in (0, 5, 16):
+        for secure in AROUND:
+            cases.list(listed(["magic", f"v{secure} of {chip}"]))
+            for low, above in itertools.product((0, 0x0100, 0x7FFF, 0xFFFF), (0, 1, 0x8000, 0x7FFF, 0xFFFF)):
+                register = above << 16 | low
+                ones = bin(low).count("1") + (bin(above).count("1") if chip == 0 else 0)
+                starts = ones <= secure <= width(chip)
+                settings = ANTI._replace(efuse=register, chip=chip)
+                through = (0, 1, 0, register) if starts else (10, None, None, register)
+                cases.boot(settings, (record(2, VALID), BLANK), through, writes=())
+                found = (0, 1, None, raised(register, secure, chip)) if starts else through
+                assert chip == 0 or found[3] >> 16 == above
+                cases.boot(settings, (BLANK, BLANK), found, writes=())
+                cases.boot(settings, (record(1, INVALID), BLANK), found[:3] + (register,), writes=())
+    cases.list(listed(["v17 of 16", "v16 of 16", "v16 of 5"]))  # step 4 on chip 16
+    for register, raises in ((0, 0xFFFF), (0xFFFF0000, LAST), (0x00010003, 0x0001FFFF), (0xFFFF, 0xFFFF), (0x8000FFFF, 0x8000FFFF)):
+        cases.boot(ANTI._replace(efuse=register, chip=16), (BLANK, BLANK), (0, 1, None, raises), writes=())
 
 
 def add_damaged(cases):
@@ -771,7 +796,7 @@ def add_all(cases):
     """Gives the number of boots and of rewrites of which all cuts are made."""
     boots = Boots(cases)
     for add in (add_flash, add_examples, add_active, add_grid, add_fallbacks, add_same_slot, add_search, add_marks, add_new,
-                add_anti_rollback, add_register, add_damaged, add_bytes, add_refusals, add_images, add_lives):
+                add_anti_rollback, add_register, add_widths, add_damaged, add_bytes, add_refusals, add_images, add_lives):
         add(boots)
     add_random(boots, random.Random(20261117))
     assert set(boots.met) == {0, 1, 2, 3, 10} and boots.flash.met == {0, *range(21, 30)}

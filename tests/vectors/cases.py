@@ -17,8 +17,8 @@ Sector 1 is laid up to the buffer's end. The kinds:
     0 flash: c bytes and the filler after them, from a on, b in all
     1 check: sequence a                         the check word
     2 slot: sequence a, slots b                 the slot
-    3 version: register a                       the version
-    4 raise: register a, version b              the register
+    3 version: chip, register a                 the version
+    4 raise: chip, register a, version b        the register
     5 read: c bytes at 16                       number, 2 where c is not 32; 1 good, 2 blank, 3 bad sequence, 4 bad check word or 5 bad
                                                 state, 0 with the number 2; of a good record the sequence, the state word, and the sum
                                                 of the record made again from what was read, else zeros

@@ -1,4 +1,4 @@
-"""Cases of the eFuse register, partition lists, their parts and app images, and document 01's rules of them.
+"""Cases of the eFuse register, partition lists, their parts and app images, and the rules of documents 01 and 02 of them.
 
 Independent of the Rattle code.
 """
@@ -17,15 +17,20 @@ ALIGN = 65536
 FACTORY = "factory"
 
 
-# ---- the rules of document 01
+# ---- the rules
 
-def version(register):
-    return bin(register).count("1")
+def width(chip):
+    """How many bits of the register count, the lowest ones."""
+    return 32 if chip == 0 else 16
 
 
-def raised(register, v):
-    for k in range(32):
-        if version(register) >= v:
+def version(register, chip):
+    return bin(register % (1 << width(chip))).count("1")
+
+
+def raised(register, v, chip):
+    for k in range(width(chip)):
+        if version(register, chip) >= v:
             break
         register |= 1 << k
     return register
@@ -92,7 +97,7 @@ def check_image(image, chip):
         return 27, at
     if image[padded - 1] != checksum(datas):
         return 28, padded - 1
-    if word(image, 36) > 32:
+    if word(image, 36) > width(chip):
         return 29, 36
     return 0, length, word(image, 4), word(image, 36), image[1]
 
@@ -106,14 +111,16 @@ class Layers:
         self.cases = cases
         self.met = set()
 
-    def version(self, register):
-        self.cases.add("version", register)
-        self.cases.say("version", version(register))
+    def version(self, register, wanted=None, chip=0):
+        got = version(register, chip)
+        assert wanted in (None, got), (register, chip)
+        self.cases.add("version", register, half=chip)
+        self.cases.say("version", got)
 
-    def raised(self, register, v, wanted=None):
-        got = raised(register, v)
-        assert wanted in (None, got), (register, v)
-        self.cases.add("raise", register, v)
+    def raised(self, register, v, wanted=None, chip=0):
+        got = raised(register, v, chip)
+        assert wanted in (None, got), (register, v, chip)
+        self.cases.add("raise", register, v, half=chip)
         self.cases.say("raise", got)
 
     def fill(self, count=IMAGES, step=1):
@@ -164,8 +171,7 @@ def add_list(cases, words, flash):
 def add_efuse(cases, rand):
     for v, wanted in ((3, 0x0B), (4, 0x0F), (5, 0x1F), (32, LAST), (33, LAST)):
         cases.raised(0x0B, v, wanted)
-    assert version(0x0B) == 3
-    cases.version(0x0B)
+    cases.version(0x0B, 3)
     registers = [0, LAST, LAST >> 1, LAST - 1] + [1 << k for k in range(32)]
     for register in registers + [rand.randrange(1 << 32) for _ in range(20)]:
         cases.version(register)
@@ -176,6 +182,23 @@ def add_efuse(cases, rand):
         cases.raised(LAST, v, LAST)
         cases.raised(0xAAAAAAAA, v)
         cases.raised(LAST >> 1, v)
+
+
+def add_sixteen_bits(cases, rand):
+    """On other chips than 0 the upper half of the register is not counted, and comes back as it is."""
+    halves = (0, 1, 0x8000, 0xAAAA, 0xFFFF)
+    for chip in (5, 16, 0x0100, 0xFFFF):
+        for above in halves:
+            for low in halves:
+                cases.version(above << 16 | low, bin(low).count("1"), chip)
+            for v in (0, 1, 15, 16, 17, 32, 33, LAST):
+                cases.raised(above << 16, v, above << 16 | 0xFFFF >> (16 - min(v, 16)), chip)
+                cases.raised(above << 16 | 0xFFFF, v, above << 16 | 0xFFFF, chip)
+        cases.raised(0xFFFF0000, 1, 0xFFFF0001, chip)
+        for _ in range(10):
+            register = rand.randrange(1 << 32)
+            cases.version(register, chip=chip)
+            cases.raised(register, rand.randrange(19), chip=chip)
 
 
 # ---- partition lists
@@ -429,6 +452,11 @@ def add_descriptor_faults(cases):
         cases.image(build([256], secure=secure), (0, 304, 0x40080400, secure, 1))
     for secure in (33, 0x0100, 0x01000000, LAST):
         cases.image(build([256], secure=secure), (29, 36))
+    for chip in (5, 16, 0x0100, 0xFFFF):
+        for secure in (0, 1, 15, 16):
+            cases.image(build([256], secure=secure, chip=chip), (0, 304, 0x40080400, secure, 1), chip=chip)
+        for secure in (17, 32, 33, 0x0100, 0x01000000, LAST):
+            cases.image(build([256], secure=secure, chip=chip), (29, 36), chip=chip)
 
 
 def add_end_faults(cases):
@@ -520,6 +548,7 @@ def add_all(cases):
     rand = random.Random(20261116)
     layers = Layers(cases)
     add_efuse(layers, rand)
+    add_sixteen_bits(layers, random.Random(6))
     for add in (add_right_lists, add_many_slots, add_wrong_lists, add_overlaps, add_list_ends):
         add(layers)
     add_random_lists(layers, rand)

@@ -10,6 +10,7 @@ use lib.Dec.{eqb}
 use lib.ListN.{length}
 use borrow.Author.Tests.{ltb-false, not-false}
 use Rattle.otadata.proofs.Booleans.{true-or-false, true-is-not-false}
+use Rattle.efuse.specs.declared.ChipId.{ChipId}
 use Rattle.app_image.specs.declared.Tested.{Tested}
 use Rattle.app_image.specs.declared.Tested.the-variants.{Passed, Failed}
 use Rattle.app_image.specs.declared.Facts.{Facts}
@@ -34,7 +35,7 @@ isPassed Passed = true
 isPassed (Failed refusal) = false
 
 -- where the header passes, its segment count does
-header-counted : (s : List ℕ) (chip : ℕ) → headerTests s chip ≡ Passed → countRight (segmentCount s) ≡ true
+header-counted : (s : List ℕ) (chip : ChipId) → headerTests s chip ≡ Passed → countRight (segmentCount s) ≡ true
 unfolding headerTests
 header-counted s chip e =
     ⊎-elim (λ (y : countRight (segmentCount s) ≡ true). y)
@@ -44,23 +45,23 @@ header-counted s chip e =
     (true-or-false (eqb (magic s) 0xE9)))
     (true-or-false (countRight (segmentCount s)))
 
-pub record IsAccepted (s : List ℕ) (chip : ℕ) (facts : Facts) : Type 0 where
+pub record IsAccepted (s : List ℕ) (chip : ChipId) (facts : Facts) : Type 0 where
   pub header : headerTests s chip ≡ Passed
   pub counted : countRight (segmentCount s) ≡ true
   pub good : anyBad (segments s) ≡ false
-  pub end : endTests s (stop (segments s)) (checksum s (segments s)) ≡ Passed
+  pub end : endTests s chip (stop (segments s)) (checksum s (segments s)) ≡ Passed
   pub with-descriptor : described s ≡ true
   pub fits : wholeLength (digestFlag s) (stop (segments s)) ≤ length s
   pub are : factsOf s (stop (segments s)) ≡ facts
 
-pub is-accepted : (s : List ℕ) (chip : ℕ) (facts : Facts) → check s chip .reply ≡ Accepted facts → IsAccepted s chip facts
+pub is-accepted : (s : List ℕ) (chip : ChipId) (facts : Facts) → check s chip .reply ≡ Accepted facts → IsAccepted s chip facts
 unfolding check segmentTest endTests
 is-accepted s chip facts e =
     let segs = segments s in
     let tested = then-accepts (lengthTest s) _ facts e in
-    let header = then-accepts (headerTests s chip) (fromSegments s segs) facts (tested .1) in
-    let walk = then-accepts (segmentTest segs) (fromEnd s (stop segs) (checksum s segs)) facts (header .1) in
-    let end = then-accepts (endTests s (stop segs) (checksum s segs)) _ facts (walk .1) in
+    let header = then-accepts (headerTests s chip) (fromSegments s chip segs) facts (tested .1) in
+    let walk = then-accepts (segmentTest segs) (fromEnd s chip (stop segs) (checksum s segs)) facts (header .1) in
+    let end = then-accepts (endTests s chip (stop segs) (checksum s segs)) _ facts (walk .1) in
     let descriptor = passed (not (described s)) 26 32 _ (end .0) in
     let whole = passed _ 27 _ _ (descriptor .1) in
     record {

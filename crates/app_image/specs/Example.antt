@@ -22,4 +22,4 @@ oneSegmentFacts = record { length = 304; entry = 0; version = record { 0 = 1 }; 
 
 -- without a digest it is accepted, for chip 0
 unfoldable pub OneSegmentAccepted : Type 0
-OneSegmentAccepted = check (oneSegment 0) 0 .reply ≡ Accepted oneSegmentFacts
+OneSegmentAccepted = check (oneSegment 0) (record { 0 = 0 }) .reply ≡ Accepted oneSegmentFacts

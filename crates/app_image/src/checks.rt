@@ -24,8 +24,9 @@ use crate::layout::HEADER_SIZE;
 use crate::layout::padded;
 use crate::layout::walk;
 use crate::layout::whole_length;
+use efuse::ChipId;
 use efuse::SecureVersion;
-use efuse::WIDTH;
+use efuse::width;
 use otadata::word_at;
 use otadata::word_of;
 
@@ -33,7 +34,7 @@ use otadata::word_of;
 const MIN_LENGTH: usize = 288;
 
 // Checks an image, for a chip: 20 first, then the header, then the segments.
-pub fn check(image: &[u8], chip: u16) -> Checked
+pub fn check(image: &[u8], chip: ChipId) -> Checked
     ensures { λ r. ⌜ viewed view r ≡ Check·check (now (image .entry)) chip ⌝ }
 {
     if image.len() < MIN_LENGTH {
@@ -46,11 +47,11 @@ pub fn check(image: &[u8], chip: u16) -> Checked
     if let Tested::Failed(refusal) = header {
         return Checked::Refused(refusal);
     }
-    check_segments(image)
+    check_segments(image, chip)
 }
 
 // 21 to 24.
-fn test_header(image: &[u8], chip: u16) -> Tested
+fn test_header(image: &[u8], chip: ChipId) -> Tested
     requires { ⌜ 288 ≤ length (now image) ⌝ }
     ensures { λ r. ⌜ r ≡ headerTests (now (image .entry)) chip ⌝ }
 {
@@ -66,7 +67,7 @@ fn test_header(image: &[u8], chip: u16) -> Tested
             place: 1,
         });
     }
-    if word_of(image[12], image[13], 0, 0) != chip as u32 {
+    if word_of(image[12], image[13], 0, 0) != chip.0 as u32 {
         return Tested::Failed(Refusal {
             number: WRONG_CHIP,
             place: 12,
@@ -91,9 +92,9 @@ fn count_right(count: u8) -> bool
 }
 
 // 25, and the tests after it.
-fn check_segments(image: &[u8]) -> Checked
+fn check_segments(image: &[u8], chip: ChipId) -> Checked
     requires { ⌜ 288 ≤ length (now image) ⌝ }
-    ensures { λ r. ⌜ viewed view r ≡ fromSegments (now (image .entry)) (segments (now (image .entry))) ⌝ }
+    ensures { λ r. ⌜ viewed view r ≡ fromSegments (now (image .entry)) chip (segments (now (image .entry))) ⌝ }
 {
     let walked = walk(image, image[1]);
     match walked {
@@ -101,16 +102,16 @@ fn check_segments(image: &[u8]) -> Checked
             number: BAD_SEGMENT,
             place: at,
         }),
-        Walked::Ends(e, sum) => check_end(image, e, sum),
+        Walked::Ends(e, sum) => check_end(image, chip, e, sum),
     }
 }
 
 // 26 to 29, and the facts of an image that passes.
-fn check_end(image: &[u8], e: usize, sum: u8) -> Checked
+fn check_end(image: &[u8], chip: ChipId, e: usize, sum: u8) -> Checked
     requires { ⌜ (288 ≤ length (now image)) × (e ≤ length (now image)) ⌝ }
-    ensures { λ r. ⌜ viewed view r ≡ fromEnd (now (image .entry)) e sum ⌝ }
+    ensures { λ r. ⌜ viewed view r ≡ fromEnd (now (image .entry)) chip e sum ⌝ }
 {
-    let end = test_end(image, e, sum);
+    let end = test_end(image, chip, e, sum);
     if let Tested::Failed(refusal) = end {
         return Checked::Refused(refusal);
     }
@@ -123,9 +124,9 @@ fn check_end(image: &[u8], e: usize, sum: u8) -> Checked
 }
 
 // 26 to 29, of segments that end at e, with that checksum of their data.
-fn test_end(image: &[u8], e: usize, sum: u8) -> Tested
+fn test_end(image: &[u8], chip: ChipId, e: usize, sum: u8) -> Tested
     requires { ⌜ (288 ≤ length (now image)) × (e ≤ length (now image)) ⌝ }
-    ensures { λ r. ⌜ r ≡ endTests (now (image .entry)) e sum ⌝ }
+    ensures { λ r. ⌜ r ≡ endTests (now (image .entry)) chip e sum ⌝ }
 {
     if !described(image) {
         return Tested::Failed(Refusal {
@@ -146,7 +147,7 @@ fn test_end(image: &[u8], e: usize, sum: u8) -> Tested
             place,
         });
     }
-    if word_at(image, 36) > WIDTH {
+    if word_at(image, 36) > width(chip) {
         return Tested::Failed(Refusal {
             number: VERSION_TOO_HIGH,
             place: 36,

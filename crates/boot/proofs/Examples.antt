@@ -15,7 +15,7 @@ use Rattle.sectors.specs.declared.Holder.the-variants.{Sector}
 use Rattle.otadata.specs.Records.{namesSlot, noReading}
 use Rattle.sectors.specs.Sectors.{active}
 use Rattle.otadata.proofs.Booleans.{true-is-not-false}
-use Rattle.efuse.specs.Register.{setLowest, raised}
+use Rattle.efuse.specs.Register.{width, setLowest, raised}
 use Rattle.partitions.specs.declared.App.the-variants.{OtaSlot}
 use Rattle.partitions.specs.PartitionList.{countBelow, factorySubtype, timesListed, slotCount, right, checked}
 use Rattle.app_image.specs.declared.Facts.{Facts}
@@ -77,17 +77,22 @@ module _ (list flash : List ℕ) (settings : Settings) (facts : Facts) (n : slot
   passes-over none = rw n (simp (not-listed none, candidates .0, candidates .1))
 
 -- a slot that it found raises the register to its app's version, 4, while neither sector holds a good record
-module _ (chip : ℕ) (facts : Facts) (v : facts .version .0 ≡ 4) where
-  abbrev protected : Settings
-  protected = record { chip = chip; efuse = 0x0B; rollback = true; «anti_rollback» = true }
+abbrev protected : ℕ → ℕ → Settings
+protected chip efuse = record { chip = record { 0 = chip }; efuse = efuse; rollback = true; «anti_rollback» = true }
 
-  pub raises : registerAfter protected (noReading ∷ noReading ∷ []) (Found slot1 facts) ≡ 0x0F
-  unfolding registerAfter anyGood noReading raised setLowest onesIn
+module _ (facts : Facts) (v : facts .version .0 ≡ 4) where
+  pub raises : registerAfter (protected 0 0x0B) (noReading ∷ noReading ∷ []) (Found slot1 facts) ≡ 0x0F
+  unfolding registerAfter anyGood noReading width raised setLowest onesIn
   raises = simp v
 
-  pub keeps : registerAfter protected (noReading ∷ goodReading 5 Aborted [] ∷ []) (Found slot1 facts) ≡ 0x0B
+  -- on chip 16 the ones above the width neither count nor change
+  pub raises-16-bits : registerAfter (protected 16 0xFFFF000B) (noReading ∷ noReading ∷ []) (Found slot1 facts) ≡ 0xFFFF000F
+  unfolding registerAfter anyGood noReading width raised setLowest onesIn
+  raises-16-bits = simp v
+
+  pub keeps : (chip : ℕ) → registerAfter (protected chip 0x0B) (noReading ∷ goodReading 5 Aborted [] ∷ []) (Found slot1 facts) ≡ 0x0B
   unfolding registerAfter anyGood noReading
-  keeps = refl
+  keeps chip = refl
 
 -- boot accepts the example node, and no node with an empty list
 pub accepts : Accepts exampleList (length exampleFlash) otadataSize exampleSettings

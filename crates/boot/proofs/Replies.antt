@@ -12,7 +12,6 @@ use Rattle.otadata.specs.declared.Slot.{Slot}
 use Rattle.otadata.specs.declared.Reading.{Reading}
 use Rattle.sectors.specs.declared.Holder.{Holder}
 use Rattle.sectors.specs.declared.Holder.the-variants.{None, Sector}
-use Rattle.efuse.specs.Register.{width, raised}
 use Rattle.partitions.specs.declared.App.the-variants.{Factory as FactoryApp, OtaSlot}
 use Rattle.partitions.specs.declared.Listing.{Listing}
 use Rattle.partitions.specs.declared.Checked.{Checked}
@@ -23,6 +22,7 @@ use Rattle.boot_choice.specs.declared.Choice.{Choice}
 use Rattle.boot_choice.specs.declared.Choice.the-variants.{Nothing, Through, Factory, Found}
 use Rattle.boot.specs.declared.Reply.{Reply}
 use Rattle.boot.specs.declared.Reply.the-variants.{Refused, Starts}
+use Rattle.boot_choice.specs.NodeRegister.{raisedTo}
 use Rattle.boot_choice.specs.Acceptance.{accepted}
 use Rattle.boot_choice.specs.Choice.{choice}
 use Rattle.otadata.specs.Records.{goodVerdict}
@@ -55,7 +55,7 @@ module _ (settings : Settings) (rs : List Reading) (slot : Slot) (facts : Facts)
     unfolding registerAfter
     register-held y = simp (not-false (settings .«anti_rollback») on, ← tested, y)
 
-    pub register-raised : t ≡ false → (r : ℕ) → r ≡ raised width (settings .efuse) (facts .version .0) → r ≡ registerAfter settings rs (Found slot facts)
+    pub register-raised : t ≡ false → (r : ℕ) → r ≡ raisedTo settings (facts .version) → r ≡ registerAfter settings rs (Found slot facts)
     unfolding registerAfter
     register-raised f r e = e ∙ simp (not-false (settings .«anti_rollback») on, ← tested, f)
 

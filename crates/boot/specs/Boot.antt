@@ -11,7 +11,6 @@ use Rattle.sectors.specs.declared.Holder.{Holder}
 use Rattle.sectors.specs.declared.Holder.the-variants.{None, Sector}
 use Rattle.otadata.specs.Records.{goodVerdict, inState}
 use Rattle.sectors.specs.Sectors.{sectorReading, sectorAt, readingsOf, withState}
-use Rattle.efuse.specs.Register.{width, raised}
 use Rattle.partitions.specs.declared.App.{App}
 use Rattle.partitions.specs.declared.App.the-variants.{Factory as FactoryApp, OtaSlot}
 use Rattle.partitions.specs.declared.Checked.{Checked}
@@ -21,6 +20,7 @@ use Rattle.boot_choice.specs.declared.Choice.{Choice}
 use Rattle.boot_choice.specs.declared.Choice.the-variants.{Nothing, Through, Factory, Found}
 use Rattle.boot.specs.declared.Reply.{Reply}
 use Rattle.boot.specs.declared.Reply.the-variants.{Refused, Starts}
+use Rattle.boot_choice.specs.NodeRegister.{raisedTo}
 use Rattle.boot_choice.specs.Acceptance.{accepted}
 use Rattle.boot_choice.specs.Choice.{ofEither, choice}
 
@@ -89,7 +89,7 @@ registerAfter settings rs Nothing = settings .efuse
 registerAfter settings rs (Through k slot facts) = settings .efuse
 registerAfter settings rs (Factory facts) = settings .efuse
 registerAfter settings rs (Found slot facts) =
-    cond (settings .«anti_rollback» && not (anyGood rs)) (raised width (settings .efuse) (facts .version .0)) (settings .efuse)
+    cond (settings .«anti_rollback» && not (anyGood rs)) (raisedTo settings (facts .version)) (settings .efuse)
 
 -- ---- boot
 

@@ -10,6 +10,7 @@ use lib.ListN.{length, take, length-append, length-replicate}
 use lib.Seq.{length-take-le, take-at, drop-at, take-all}
 use Rattle.otadata.proofs.Booleans.{true-is-not-false}
 use Rattle.sectors.specs.Sectors.{Part}
+use Rattle.efuse.specs.Register.{width}
 use Rattle.partitions.specs.declared.App.{App}
 use Rattle.partitions.specs.declared.App.the-variants.{Factory, OtaSlot}
 use Rattle.partitions.specs.declared.Checked.the-variants.{Accepted}
@@ -76,12 +77,12 @@ image-1 =
 
 -- ---- the apps
 
-slot-accepted : check exampleSlot 0 .reply ≡ AcceptedImage oneSegmentFacts
+slot-accepted : check exampleSlot (exampleSettings .chip) .reply ≡ AcceptedImage oneSegmentFacts
 unfolding exampleSlot OneSegmentAccepted TailIgnored
-slot-accepted = tail-ignored (oneSegment 0) (filled 3792 0) 0 oneSegmentFacts one-segment-accepted
+slot-accepted = tail-ignored (oneSegment 0) (filled 3792 0) (exampleSettings .chip) oneSegmentFacts one-segment-accepted
 
 passes : (app : App) → image exampleList exampleFlash app ≡ exampleSlot → Passes exampleList exampleFlash exampleSettings app
-unfolding passing onesIn
+unfolding passing width onesIn
 passes app e = simp (e, slot-accepted)
 
 no-image : image exampleList exampleFlash Factory ≡ []

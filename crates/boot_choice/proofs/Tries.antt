@@ -24,7 +24,6 @@ use Rattle.otadata.specs.Records.{usableState, usableVerdict, usable, namesSlot
 use Rattle.sectors.specs.Sectors.{active, Part, part}
 use Rattle.sectors.proofs.Activity.{default, active-below-two}
 use Rattle.efuse.specs.declared.SecureVersion.{SecureVersion}
-use Rattle.efuse.specs.Register.{width, version}
 use Rattle.partitions.specs.declared.App.{App}
 use Rattle.partitions.specs.declared.App.the-variants.{Factory as FactoryApp, OtaSlot}
 use Rattle.partitions.specs.PartitionList.{Entry, entryAt, entryCount, entryOf, entryPart, subtypeOf, right, factorySubtype, timesListed, slotCount, appPart}
@@ -38,6 +37,7 @@ use Rattle.boot_choice.specs.declared.Passing.{Passing}
 use Rattle.boot_choice.specs.declared.Passing.the-variants.{No, Yes}
 use Rattle.boot_choice.specs.declared.Choice.{Choice}
 use Rattle.boot_choice.specs.declared.Choice.the-variants.{Nothing, Through, Factory, Found}
+use Rattle.boot_choice.specs.NodeRegister.{eFuseVersion}
 use Rattle.boot_choice.specs.Choice.{image, tooOld, passing, chosen, orElse, ifPasses, namedSlot, throughRecord, throughRecords, factory, verdictBars, ofEither, barred, candidate, searchFrom, search}
 
 -- ---- the eFuse version
@@ -46,7 +46,7 @@ module _ (settings : Settings) (v : SecureVersion) where
   pub no-version-asked : not (settings .«anti_rollback») ≡ true → false ≡ tooOld settings v
   no-version-asked n = simp (not-true (settings .«anti_rollback») n)
 
-  pub version-decides : not (settings .«anti_rollback») ≡ false → (e : SecureVersion) → e .0 ≡ version width (settings .efuse) → ltb (v .0) (e .0) ≡ tooOld settings v
+  pub version-decides : not (settings .«anti_rollback») ≡ false → (e : SecureVersion) → e .0 ≡ eFuseVersion settings → ltb (v .0) (e .0) ≡ tooOld settings v
   version-decides y e counted = simp (counted, not-false (settings .«anti_rollback») y)
 
 -- ---- passing

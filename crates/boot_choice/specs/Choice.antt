@@ -14,7 +14,6 @@ use Rattle.sectors.specs.declared.Holder.the-variants.{None, Sector}
 use Rattle.otadata.specs.Records.{noReading, ifGood, usableState, usable, namesSlot}
 use Rattle.sectors.specs.Sectors.{active}
 use Rattle.efuse.specs.declared.SecureVersion.{SecureVersion}
-use Rattle.efuse.specs.Register.{width, version}
 use Rattle.partitions.specs.declared.App.{App}
 use Rattle.partitions.specs.declared.App.the-variants.{Factory as FactoryApp, OtaSlot}
 use Rattle.partitions.specs.PartitionList.{factorySubtype, timesListed, slotCount, appPart}
@@ -27,6 +26,7 @@ use Rattle.boot_choice.specs.declared.Passing.{Passing}
 use Rattle.boot_choice.specs.declared.Passing.the-variants.{No, Yes}
 use Rattle.boot_choice.specs.declared.Choice.{Choice}
 use Rattle.boot_choice.specs.declared.Choice.the-variants.{Nothing, Through, Factory, Found}
+use Rattle.boot_choice.specs.NodeRegister.{eFuseVersion}
 
 -- ---- passing
 
@@ -36,7 +36,7 @@ image list flash app = appPart list (record { place = (0, 0); content = flash })
 
 -- with anti-rollback on, a version below the eFuse version
 abbrev pub tooOld : Settings → SecureVersion → Bool
-tooOld settings v = settings .«anti_rollback» && ltb (v .0) (version width (settings .efuse))
+tooOld settings v = settings .«anti_rollback» && ltb (v .0) (eFuseVersion settings)
 
 -- the answer of the image check, held to the eFuse version
 abbrev pub held : Settings → Checked → Passing

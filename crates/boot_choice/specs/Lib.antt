@@ -1,3 +1,4 @@
 pub mod Acceptance
 pub mod Choice
 pub mod Example
+pub mod NodeRegister

@@ -42,7 +42,7 @@ pub fn too_old(settings: Settings, of: SecureVersion) -> bool
     if !settings.anti_rollback {
         return false;
     }
-    of.0 < version(settings.efuse).0
+    of.0 < version(settings.chip, settings.efuse).0
 }
 
 // The choice, in document 01's order. Of a list that is refused nothing is chosen.

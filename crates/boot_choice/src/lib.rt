@@ -9,6 +9,7 @@ pub use choosing::choose;
 pub use choosing::chosen;
 pub use choosing::passes;
 pub use choosing::too_old;
+use efuse::ChipId;
 use otadata::Slot;
 
 // The size of otadata: two sectors.
@@ -19,7 +20,7 @@ pub const WRONG_SETTINGS: u32 = 3;
 
 // What is set on a node: the chip id, the eFuse register, and which of the two protections are on.
 pub struct Settings {
-    pub chip: u16,
+    pub chip: ChipId,
     pub efuse: u32,
     pub rollback: bool,
     pub anti_rollback: bool,

@@ -14,7 +14,6 @@ use Rattle.otadata.specs.declared.Reading.{Reading}
 use Rattle.sectors.specs.declared.Holder.the-variants.{Sector}
 use Rattle.otadata.specs.Records.{ifGood, usable}
 use Rattle.sectors.specs.Sectors.{sectorReading, sectorAt, readingsOf}
-use Rattle.efuse.specs.Register.{width, version}
 use Rattle.partitions.specs.declared.App.{App}
 use Rattle.app_image.specs.declared.Facts.{Facts}
 use Rattle.app_image.specs.declared.Checked.the-variants.{Accepted}
@@ -24,6 +23,7 @@ use Rattle.boot.specs.declared.Refusal.{Refusal}
 use Rattle.boot.specs.declared.Start.{Start}
 use Rattle.boot.specs.declared.Reply.{Reply}
 use Rattle.boot.specs.declared.Reply.the-variants.{Refused, Starts}
+use Rattle.boot_choice.specs.NodeRegister.{eFuseVersion}
 use Rattle.boot_choice.specs.Choice.{image, choice}
 use Rattle.boot.specs.Boot.{view, Outcome, marked, replyTo, boot, Accepts}
 
@@ -42,7 +42,7 @@ ThroughUsable o out =
 pub record NotBelow (list flash : List ℕ) (settings : Settings) (app : App) : Type 0 where
   pub facts : Facts
   pub accepted : check (image list flash app) (settings .chip) .reply ≡ Accepted facts
-  pub not-below : settings .«anti_rollback» ≡ true → version width (settings .efuse) ≤ facts .version .0
+  pub not-below : settings .«anti_rollback» ≡ true → eFuseVersion settings ≤ facts .version .0
 
 -- a boot that starts an app starts such a one
 abbrev pub StartsNotBelow : List ℕ → List ℕ → Settings → Outcome → Type 0

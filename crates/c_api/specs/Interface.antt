@@ -7,6 +7,7 @@ use lib.ListN.{length, replicate, drop}
 use Rattle.otadata.specs.Answers.{Answer, Outcome as Answers·Outcome}
 use Rattle.otadata.specs.declared.Made.{Made}
 use Rattle.otadata.specs.declared.Slot.{Slot}
+use Rattle.efuse.specs.declared.ChipId.{ChipId}
 use Rattle.partitions.specs.declared.App.{App}
 use Rattle.partitions.specs.declared.App.the-variants.{Factory, OtaSlot}
 use Rattle.boot_choice.specs.declared.Settings.{Settings}
@@ -36,9 +37,13 @@ activeView rec before = cond (eqb (length rec) 32) (answer 32 rec) (answer 0 bef
 abbrev pub flag : ℕ → Bool
 flag f = not (eqb f 0)
 
+-- the chip of an id
+abbrev pub chipOf : ℕ → ChipId
+chipOf id = record { 0 = id }
+
 abbrev pub settingsOf : ℕ → ℕ → ℕ → ℕ → Settings
 settingsOf chip efuse rollback anti =
-    record { chip = chip; efuse = efuse; rollback = flag rollback; «anti_rollback» = flag anti }
+    record { chip = chipOf chip; efuse = efuse; rollback = flag rollback; «anti_rollback» = flag anti }
 
 -- the slot of a number
 abbrev pub slotOf : ℕ → Slot

@@ -9,6 +9,7 @@ use boot::Reply;
 use boot::Start;
 use boot::boot;
 use boot_choice::Settings;
+use efuse::ChipId;
 use partitions::App;
 use sectors::Holder;
 
@@ -49,7 +50,7 @@ pub(crate) fn settings_of(chip: u16, efuse: u32, rollback: u8, anti: u8) -> Sett
     ensures { λ r. ⌜ r ≡ settingsOf chip efuse rollback anti ⌝ }
 {
     Settings {
-        chip,
+        chip: ChipId(chip),
         efuse,
         rollback: rollback != 0,
         anti_rollback: anti != 0,

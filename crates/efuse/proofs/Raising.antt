@@ -8,28 +8,36 @@ use lib.Bits.{bitOr, or-lt}
 use lib.Count.{onesIn, trailingZeros}
 use lib.Pow.{pow-lt}
 use Rattle.efuse.specs.Register.{setLowest, raised}
-use Rattle.efuse.proofs.Setting.{set-none, set-full, set-one-more, count-set, clear, lowest-clear, or-lowest}
+use Rattle.efuse.proofs.Counting.{ones-in-wider}
+use Rattle.efuse.proofs.Setting.{set-none, set-full, set-one-more, set-within, count-set, clear, lowest-clear, or-lowest}
 
--- the bit that the code sets: 1 shifted by the trailing zeros of the complement, in a word of w bits
+-- the bit that the code sets: 1 shifted by the trailing zeros of the complement, in a word of W bits
 abbrev pub found : ℕ → ℕ → ℕ
-found w r = 1 * 2 ^ trailingZeros w (clear w r) % 2 ^ w
+found W r = 1 * 2 ^ trailingZeros W (clear W r) % 2 ^ W
 
-module _ (w r : ℕ) (fits : r < 2 ^ w) (some : onesIn w r < w) where
+-- of the word's W bits the w lowest count, and one of these is clear
+module _ (w W r : ℕ) (within : w ≤ W) (fits : r < 2 ^ W) (some : onesIn w r < w) where
+  some-of-all : onesIn W r < W
+  some-of-all = omega (arith, ones-in-wider w W r within)
+
+  pub found-below : trailingZeros W (clear W r) < W
+  found-below = lowest-clear W r fits some-of-all
+
   -- the shift loses nothing
-  found-bit : found w r ≡ 2 ^ trailingZeros w (clear w r)
-  found-bit = let l : 1 * 2 ^ trailingZeros w (clear w r) < 2 ^ w = omega (arith, pow-lt (lowest-clear w r fits some)) in mod-eq-of-lt l ∙ omega arith
+  found-bit : found W r ≡ 2 ^ trailingZeros W (clear W r)
+  found-bit = let l : 1 * 2 ^ trailingZeros W (clear W r) < 2 ^ W = omega (arith, pow-lt found-below) in mod-eq-of-lt l ∙ omega arith
 
-  pub turn-sets : bitOr r (found w r) ≡ setLowest w 1 r
-  turn-sets = rw found-bit (or-lowest w r fits some)
+  pub turn-sets : bitOr r (found W r) ≡ setLowest w 1 r
+  turn-sets = rw found-bit (or-lowest W r fits some-of-all) ∙ set-within w W 1 r within (omega arith)
 
-  pub turn-fits : bitOr r (found w r) < 2 ^ w
-  turn-fits = rw found-bit (or-lt w r (2 ^ trailingZeros w (clear w r)) fits (pow-lt (lowest-clear w r fits some)))
+  pub turn-fits : bitOr r (found W r) < 2 ^ W
+  turn-fits = rw found-bit (or-lt W r (2 ^ trailingZeros W (clear W r)) fits (pow-lt found-below))
 
-  pub turn-counts : onesIn w (bitOr r (found w r)) ≡ onesIn w r + 1
+  pub turn-counts : onesIn w (bitOr r (found W r)) ≡ onesIn w r + 1
   turn-counts = rw turn-sets (omega (arith, count-set w 1 r))
 
   -- after a turn what is left to do gives the same
-  pub turn-same : (v : ℕ) → onesIn w r < v → raised w (bitOr r (found w r)) v ≡ raised w r v
+  pub turn-same : (v : ℕ) → onesIn w r < v → raised w (bitOr r (found W r)) v ≡ raised w r v
   unfolding raised
   turn-same v l =
       let n = v - (onesIn w r + 1) in

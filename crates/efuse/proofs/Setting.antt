@@ -1,7 +1,7 @@
 -- Setting the lowest clear bits.
 -- Assumes nothing.
 use Prim.Native.Nat.{ℕ, zero, suc, _+_, _-_, _*_, _/_, _%_, _^_, _<_, _≤_, min}
-use mathlib.Core.Path.{_≡_, refl, ap, _∙_}
+use mathlib.Core.Path.{_≡_, refl, sym, ap, _∙_}
 use mathlib.Core.Bool.{cond}
 use mathlib.Core.Logic.{⊎-elim}
 use native.Mathlib.Nat.{pow-suc}
@@ -99,6 +99,19 @@ set-one-more (suc w) (suc k) r =
         let low : (2 * s + 1) % 2 ≡ 1 = omega arith in
         let high : (2 * s + 1) / 2 ≡ s = omega arith in
         rw (set-set w k (2 * s + 1) low, high) refl
+
+-- ---- a wider word
+
+-- where the w lowest bits have room for k, setting k among more bits sets the same
+pub set-within : (w W k r : ℕ) → w ≤ W → onesIn w r + k ≤ w → setLowest W k r ≡ setLowest w k r
+set-within w W zero r l m = set-none W r ∙ sym (set-none w r)
+set-within zero W (suc k) r l m = absurd (omega arith)
+set-within (suc w) zero (suc k) r l m = absurd (omega arith)
+set-within (suc w) (suc W) (suc k) r l m =
+    ⊎-elim
+    (λ (e : r % 2 ≡ 0). rw (set-clear w k r e, set-clear W k r e, set-within w W k (r / 2) (omega arith) (omega (arith, count-step w r))) refl)
+    (λ (e : r % 2 ≡ 1). rw (set-set w k r e, set-set W k r e, set-within w W (suc k) (r / 2) (omega arith) (omega (arith, count-step w r))) refl)
+    (low-bit r)
 
 -- ---- the bit that the code sets
 

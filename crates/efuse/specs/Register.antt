@@ -1,17 +1,24 @@
--- The eFuse register: the version that it holds, and how it is raised. All is over a width w, the number of its bits that count.
+-- The eFuse register: how many of its bits count on a chip, the version that it holds, and how it is raised. Version and raising are
+-- over a width w.
 use Prim.Native.Nat.{ℕ, zero, suc, _+_, _-_, _*_, _/_, _%_, _^_, _<_, min, max}
 use mathlib.Core.Path.{_≡_}
 use mathlib.Core.Bool.{cond}
 use lib.Count.{onesIn}
 use lib.Dec.{eqb}
+use Rattle.efuse.specs.declared.ChipId.{ChipId}
 
--- every chip has 32 bits
-abbrev pub width : ℕ
-width = 32
+-- the width of a chip: how many bits of its register count, the lowest ones. Chip 0, the ESP32, has 32, all others 16
+-- (source document 001, document 02 order 6)
+unfoldable pub width : ChipId → ℕ
+width chip = cond (eqb (chip .0) 0) 32 16
 
 -- the eFuse version: the number of ones among the w lowest bits
 abbrev pub version : ℕ → ℕ → ℕ
 version w register = onesIn w register
+
+-- ones above the width aren't counted
+unfoldable pub AboveLaw : Type 0
+AboveLaw = (w register : ℕ) → version w (register % 2 ^ w) ≡ version w register
 
 -- the register with k of its w lowest bits set that were clear, the lowest first; all of them where fewer are clear
 unfoldable pub setLowest : ℕ → ℕ → ℕ → ℕ

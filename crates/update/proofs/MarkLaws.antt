@@ -14,12 +14,12 @@ use Rattle.sectors.specs.declared.Holder.{Holder}
 use Rattle.sectors.specs.declared.Holder.the-variants.{Sector}
 use Rattle.sectors.specs.Sectors.{sectorReading, sectorAt, readingsOf, withState}
 use Rattle.efuse.specs.declared.SecureVersion.{SecureVersion}
-use Rattle.efuse.specs.Register.{width, raised}
 use Rattle.partitions.specs.declared.Listing.{Listing}
 use Rattle.partitions.specs.declared.Checked.{Checked}
 use Rattle.partitions.specs.declared.Checked.the-variants.{Accepted}
 use Rattle.app_image.specs.declared.Facts.{Facts}
 use Rattle.boot_choice.specs.declared.Settings.{Settings}
+use Rattle.boot_choice.specs.NodeRegister.{raisedTo}
 use Rattle.boot.specs.Boot.{boot, Accepts, passedTests}
 use Rattle.boot.proofs.Replies.{accepted-size}
 use Rattle.otadata.specs.Records.{inState}
@@ -65,7 +65,7 @@ module _ (settings : Settings) (v : SecureVersion) where
   pub register-as-given : not (settings .«anti_rollback») ≡ true → settings .efuse ≡ registerRaised settings v
   register-as-given n = simp (not-true (settings .«anti_rollback») n)
 
-  pub register-is-raised : not (settings .«anti_rollback») ≡ false → (r : ℕ) → r ≡ raised width (settings .efuse) (v .0) → r ≡ registerRaised settings v
+  pub register-is-raised : not (settings .«anti_rollback») ≡ false → (r : ℕ) → r ≡ raisedTo settings v → r ≡ registerRaised settings v
   register-is-raised on r e = e ∙ simp (not-false (settings .«anti_rollback») on)
 
 module _ (k : ℕ) (o : List ℕ) (reading : Reading) (read : reading ≡ sectorReading (sectorAt k o)) (t : Bool) (tested : t ≡ inState Valid (reading .verdict)) where

@@ -9,9 +9,9 @@ use Rattle.otadata.specs.declared.Slot.{Slot}
 use Rattle.otadata.specs.declared.State.the-variants.{Valid, Invalid}
 use Rattle.sectors.specs.Sectors.{sectorReading, sectorAt, readingsOf, withState}
 use Rattle.efuse.specs.declared.SecureVersion.{SecureVersion}
-use Rattle.efuse.specs.Register.{width, raised}
 use Rattle.app_image.specs.declared.Facts.{Facts}
 use Rattle.boot_choice.specs.declared.Settings.{Settings}
+use Rattle.boot_choice.specs.NodeRegister.{raisedTo}
 use Rattle.boot.specs.declared.Reply.{Reply as BootReply}
 use Rattle.boot.specs.declared.Reply.the-variants.{Refused as BootRefused, Starts}
 use Rattle.boot.specs.Boot.{boot}
@@ -28,7 +28,7 @@ confirmed k o = cond (inState Valid (sectorReading (sectorAt k o) .verdict)) o (
 
 -- with anti-rollback on, the register raised to the app's version
 abbrev pub registerRaised : Settings → SecureVersion → ℕ
-registerRaised settings v = cond (settings .«anti_rollback») (raised width (settings .efuse) (v .0)) (settings .efuse)
+registerRaised settings v = cond (settings .«anti_rollback») (raisedTo settings v) (settings .efuse)
 
 -- the mark of the record of sector k, of an app with these facts
 abbrev pub confirms : Settings → ℕ → List ℕ → Facts → Outcome

@@ -22,11 +22,12 @@ pub(crate) fn answer(case: &[u8], list: &[u32], flash: &[u8]) -> [u32; 5] {
     let b = word_at(case, 8);
     let flash = part(flash, 0, word_at(case, 12) as usize);
     let kind = head % 256;
+    let chip = (head / 65536) as u16;
     match kind {
         1 => [ota_check_word(a), 0, 0, 0, 0],
         2 => [Sequence(a).slot(b).0, 0, 0, 0, 0],
-        3 => [ota_efuse_version(a), 0, 0, 0, 0],
-        4 => [ota_efuse_raise(a, b), 0, 0, 0, 0],
+        3 => [ota_efuse_version(chip, a), 0, 0, 0, 0],
+        4 => [ota_efuse_raise(chip, a, b), 0, 0, 0, 0],
         5 => read(case),
         6 => make(case),
         7 => {
@@ -38,7 +39,7 @@ pub(crate) fn answer(case: &[u8], list: &[u32], flash: &[u8]) -> [u32; 5] {
         9 => of_part(app_part(list, flash, App::Factory)),
         10 => {
             let mut out = [0u64; 4];
-            let number = ota_check_image(flash, (head / 65536) as u16, &mut out);
+            let number = ota_check_image(flash, chip, &mut out);
             [
                 number,
                 (out[0] % 4294967296) as u32,

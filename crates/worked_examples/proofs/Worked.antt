@@ -15,9 +15,10 @@ use Rattle.otadata.specs.declared.Reading.{Reading}
 use Rattle.otadata.specs.Words.{shift, feeds, checkWord}
 use Rattle.otadata.specs.Records.{stateWord, usableState, usableVerdict, usable, namesSlot, noReading, good, recordOf, made}
 use Rattle.sectors.specs.Sectors.{sectorReading, sectorAt, readingsOf}
-use Rattle.efuse.specs.Register.{setLowest, raised}
+use Rattle.efuse.specs.Register.{width, setLowest, raised}
 use Rattle.partitions.specs.PartitionList.{firstFrom}
 use Rattle.app_image.specs.Layout.{badSegment, segmentsFrom, xored}
+use Rattle.app_image.specs.Check.{lengthTest, headerTests, segmentTest, endTests, check}
 use Rattle.app_image.specs.Example.{oneSegment}
 use Rattle.boot_choice.specs.declared.Settings.{Settings}
 use Rattle.boot.specs.Boot.{view, Accepts}
@@ -110,7 +111,7 @@ pub valid-not-pending : Valid ≡ Pending → ⊥
 valid-not-pending e = let z : _≡_ {A = ℕ} 2 1 = ap stateWord e in omega arith
 
 pub worked-examples : WorkedExamples
-unfolding WorkedExamples made recordOf good checkWord feeds shift nextSequence firstFrom namesSlot raised setLowest onesIn oneSegment segmentsFrom badSegment xored
+unfolding WorkedExamples made recordOf good checkWord feeds shift nextSequence firstFrom namesSlot width raised setLowest onesIn oneSegment segmentsFrom badSegment xored check lengthTest headerTests segmentTest endTests
 worked-examples = (
   refl,
   (
@@ -123,7 +124,7 @@ worked-examples = (
           set-refused _ _ _ (record { below = omega arith; another = refl }) refl,
           (
             boots-holds _ _ _ _ _ _ refl valid-not-pending refl refl,
-            (refl, (refl, (refl, (refl, tt)))),
+            (refl, (refl, (refl, (refl, (refl, (refl, (refl, (refl, tt)))))))),
           ),
         ),
       ),

@@ -1,9 +1,10 @@
--- The examples of document 01 that are marked P, in its order, as one table; and what it means that an example holds.
+-- The examples of document 01 that are marked P, in its order, and those of document 02, as one table; and what it means that an example
+-- holds.
 use Prim.Native.Nat.{ℕ, _-_, _<_}
 use mathlib.Core.Path.{_≡_}
 use mathlib.Core.Bool.{true}
 use mathlib.Core.List.{List, [], _∷_, _++_}
-use lib.ListN.{length, getD, replicate}
+use lib.ListN.{length, getD, set as setAt, replicate}
 use Rattle.otadata.specs.Answers.{Answer}
 use Rattle.otadata.specs.declared.Slot.{Slot}
 use Rattle.otadata.specs.declared.State.{State}
@@ -13,10 +14,12 @@ use Rattle.otadata.specs.declared.Verdict.the-variants.{Good}
 use Rattle.otadata.specs.Records.{stateWord, made}
 use Rattle.sectors.specs.declared.Holder.the-variants.{Sector}
 use Rattle.sectors.specs.Sectors.{sectorReading, active, sectorAt, readingsOf}
-use Rattle.efuse.specs.Register.{width, raised}
+use Rattle.efuse.specs.declared.ChipId.{ChipId}
+use Rattle.efuse.specs.Register.{width, version, raised}
 use Rattle.partitions.specs.declared.App.the-variants.{OtaSlot}
 use Rattle.partitions.specs.PartitionList.{slotCount}
 use Rattle.app_image.specs.Layout.{segments, stop, checksumPlace, wholeLength, checksum}
+use Rattle.app_image.specs.Check.{check}
 use Rattle.app_image.specs.Example.{oneSegment}
 use Rattle.boot_choice.specs.declared.Settings.{Settings}
 use Rattle.boot_choice.specs.Acceptance.{otadataSize}
@@ -28,6 +31,14 @@ use Rattle.update.specs.SetBoot.{newState, setBoot}
 
 abbrev pub gives : List ℕ → Answer
 gives values = record { number = 0; values = values }
+
+-- ---- chips
+
+abbrev pub esp32 : ChipId
+esp32 = record { 0 = 0 }
+
+abbrev pub esp32h2 : ChipId
+esp32h2 = record { 0 = 16 }
 
 -- ---- nodes and otadata
 
@@ -111,6 +122,10 @@ layout flag =
     let e = stop (segments image) in
     gives (checksum image (segments image) ∷ checksumPlace e ∷ getD image (checksumPlace e) 0 ∷ wholeLength flag e ∷ [])
 
+-- the image of one segment for the ESP32-H2, with a secure version and the checksum that goes with it
+abbrev pub forH2 : ℕ → ℕ → List ℕ
+forH2 v sum = setAt (setAt (setAt (oneSegment 0) 12 (esp32h2 .0)) 36 v) 303 sum
+
 -- ---- the table
 
 abbrev pub table : List Example
@@ -128,12 +143,18 @@ table =
     -- sequences 4 valid and 5 aborted, n = 2, slot 1 passes: slot 1 through sequence 4
     ∷ boots 2 (good 4 Valid) (good 5 Aborted) 1
     -- register 0x0B raised to 3: 0x0B; to 4: 0x0F; to 5: 0x1F
-    ∷ value (gives (raised width 0x0B 3 ∷ raised width 0x0B 4 ∷ raised width 0x0B 5 ∷ [])) (gives (0x0B ∷ 0x0F ∷ 0x1F ∷ []))
+    ∷ value (gives (raised (width esp32) 0x0B 3 ∷ raised (width esp32) 0x0B 4 ∷ raised (width esp32) 0x0B 5 ∷ [])) (gives (0x0B ∷ 0x0F ∷ 0x1F ∷ []))
     -- one 256-byte segment: checksum 0xEE at 303, length 304; flag 1: 336
     ∷ value (layout 0) (gives (0xEE ∷ 303 ∷ 0xEE ∷ 304 ∷ []))
     ∷ value (layout 1) (gives (0xEE ∷ 303 ∷ 0xEE ∷ 336 ∷ []))
     -- e = 0x89B7C: checksum at 0x89B7F, length with digest 564,128
     ∷ value (gives (checksumPlace 0x89B7C ∷ wholeLength 1 0x89B7C ∷ [])) (gives (0x89B7F ∷ 564128 ∷ []))
+    -- document 02, order 6, on the ESP32-H2: version 16 is accepted, version 17 refused with 29
+    ∷ value (check (forH2 16 0xFF) esp32h2 .answer) (gives (304 ∷ 0 ∷ 16 ∷ 1 ∷ []))
+    ∷ value (check (forH2 17 0xFE) esp32h2 .answer) (record { number = 29; values = 36 ∷ [] })
+    -- 0x0000FFFF raised to 17: unchanged; 0xFFFF0000 holds version 0, and raised to 1 it is 0xFFFF0001
+    ∷ value (gives (raised (width esp32h2) 0x0000FFFF 17 ∷ [])) (gives (0x0000FFFF ∷ []))
+    ∷ value (gives (version (width esp32h2) 0xFFFF0000 ∷ raised (width esp32h2) 0xFFFF0000 1 ∷ [])) (gives (0 ∷ 0xFFFF0001 ∷ []))
     ∷ []
 
 -- the claim

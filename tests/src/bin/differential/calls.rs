@@ -21,6 +21,12 @@ pub fn to_be_met() -> Vec<String> {
         things.extend(calls.map(|call| format!("{call}: a sector reads {reading}")));
         things.extend([format!("read_sector: {reading}"), format!("read_sector: wrong size, {reading}")]);
     }
+    for kind in ["32 bits", "16 bits", "16 bits, ones above"] {
+        let ways =
+            ["efuse_version", "efuse_raise: raised", "boot: by the search, register raised", "mark_valid: register raised"];
+        things.extend(ways.map(|way| format!("{way}, {kind}")));
+        things.extend(["set_boot", "mark_valid"].map(|call| format!("{call}: 6, {kind}")));
+    }
     things.extend(Drawn::all().iter().map(|drawn| format!("read_sector: {}", drawn.name())));
     things.extend(
         [
@@ -38,7 +44,6 @@ pub fn to_be_met() -> Vec<String> {
             "boot: through the other record",
             "boot: factory",
             "boot: by the search",
-            "boot: by the search, register raised",
             "boot: a record marked aborted",
             "boot: both records marked aborted",
             "boot: a record marked pending",
@@ -48,7 +53,8 @@ pub fn to_be_met() -> Vec<String> {
             "set_boot: sector 0 rewritten",
             "set_boot: sector 1 rewritten",
             "mark_valid: valid already",
-            "mark_valid: register raised",
+            "check_image: 0, version 17 to 32",
+            "check_image: 29, version 17 to 32",
             "mark_invalid: sector 0 rewritten",
             "mark_invalid: sector 1 rewritten",
             "state_query: not through the active record",
@@ -99,16 +105,20 @@ impl Run {
     fn words(&mut self) {
         let rng = &mut self.rng;
         let sequence = generate::sequence(rng);
-        let efuse = generate::efuse(rng);
-        let version = rng.pick(&[0, 1, 2, 5, 16, 31, 32, 33, 64, 0x8000_0000, 0xFFFF_FFFF, efuse.count_ones()]);
+        let (chip_id, efuse) = (generate::chip_id(rng), generate::efuse(rng));
+        let held = settings::efuse_version(chip_id, efuse);
+        let version =
+            rng.pick(&[0, 1, 2, 5, 15, 16, 17, 31, 32, 33, 64, 0x8000_0000, 0xFFFF_FFFF, held, held + 1, efuse.count_ones()]);
         self.same("check_word", &sequence, ffi::check_word(sequence), record::check_word(sequence));
-        self.same("efuse_version", &efuse, ffi::efuse_version(efuse), settings::efuse_version(efuse));
-        let raised = settings::efuse_raise(efuse, version);
-        self.same("efuse_raise", &(efuse, version), ffi::efuse_raise(efuse, version), raised);
-        for call in ["check_word", "efuse_version", "efuse_raise"] {
-            self.tally.met(call);
-            self.tally.calls += 1;
-        }
+        self.same("efuse_version", &(chip_id, efuse), ffi::efuse_version(chip_id, efuse), held);
+        let raised = settings::efuse_raise(chip_id, efuse, version);
+        self.same("efuse_raise", &(chip_id, efuse, version), ffi::efuse_raise(chip_id, efuse, version), raised);
+        let kind = register_kind(chip_id, efuse);
+        let way = if raised == efuse { "kept" } else { "raised" };
+        self.tally.met("check_word");
+        self.tally.met(format!("efuse_version, {kind}"));
+        self.tally.met(format!("efuse_raise: {way}, {kind}"));
+        self.tally.calls += 3;
     }
 
     /// A slice of sequences, of which every length from 0 to 16 comes up, and a longer one.
@@ -283,6 +293,9 @@ impl Run {
         self.same("check_image", &inputs, library, model);
         self.same_bytes("check_image", &inputs, &lent, &image);
         self.tally.number("check_image", model.0);
+        if [0, 29].contains(&model.0) && (17..=32).contains(&record::word_at(&image, image::VERSION_PLACE)) {
+            self.tally.met(format!("check_image: {}, version 17 to 32", model.0));
+        }
     }
 
     /// The six calls on a node, each on the same bytes.
@@ -346,9 +359,12 @@ impl Run {
         }
         if let Ok(started) = reply {
             let after = sector::readings(&otadata);
+            if started.efuse != settings.efuse {
+                let kind = register_kind(settings.chip_id, settings.efuse);
+                self.tally.met(format!("boot: by the search, register raised, {kind}"));
+            }
             self.tally.met(match (started.app, started.sector) {
                 (App::Factory, _) => "boot: factory",
-                (_, None) if started.efuse != settings.efuse => "boot: by the search, register raised",
                 (_, None) => "boot: by the search",
                 (_, sector) if sector == sector::active(&after) => "boot: through the active record",
                 _ => "boot: through the other record",
@@ -406,7 +422,8 @@ impl Run {
                 self.tally.met("mark_valid: valid already");
             }
             if register != settings.efuse {
-                self.tally.met("mark_valid: register raised");
+                let kind = register_kind(settings.chip_id, settings.efuse);
+                self.tally.met(format!("mark_valid: register raised, {kind}"));
             }
         }
     }
@@ -499,8 +516,13 @@ impl Run {
 
     fn tally_with_image<T>(&mut self, call: &'static str, case: &NodeCase, reply: &Result<T, Refusal>) {
         self.tally_node(call, case, number_of(reply));
-        if let Err(Refusal::Image(refusal)) = reply {
-            self.tally.image_number(call, refusal.number);
+        match reply {
+            Err(Refusal::Image(refusal)) => self.tally.image_number(call, refusal.number),
+            Err(Refusal::TooOld) => {
+                let kind = register_kind(case.settings.chip_id, case.settings.efuse);
+                self.tally.met(format!("{call}: 6, {kind}"));
+            }
+            _ => {}
         }
     }
 
@@ -539,8 +561,17 @@ pub fn plain(settings: ffi::Settings) -> Settings {
     }
 }
 
+/// How many bits of a register hold the version, and whether there are ones above them.
+fn register_kind(chip_id: u16, efuse: u32) -> &'static str {
+    match settings::efuse_width(chip_id) {
+        32 => "32 bits",
+        _ if efuse >> 16 == 0 => "16 bits",
+        _ => "16 bits, ones above",
+    }
+}
+
 /// The image number and place that come with a 5, else zero.
-fn image_refusal<T>(reply: &Result<T, Refusal>) -> [u64; 2] {
+pub fn image_refusal<T>(reply: &Result<T, Refusal>) -> [u64; 2] {
     match reply {
         Err(Refusal::Image(refusal)) => [refusal.number.into(), refusal.place],
         _ => [0, 0],

@@ -5,7 +5,7 @@
 use crate::calls::{hex, plain};
 use ota_tests::boot::{boot, passes, App};
 use ota_tests::ffi::{self, Node};
-use ota_tests::generate::{self, plain_node};
+use ota_tests::generate::{self, plain_node_of};
 use ota_tests::image::Facts;
 use ota_tests::partition::{self, Partitions};
 use ota_tests::record::{make, Reading, Record, State, HIGHEST_SEQUENCE};
@@ -19,6 +19,9 @@ const SLOTS: [Option<u32>; 4] = [Some(3), Some(5), Some(1), None];
 const OFF: ffi::Settings = ffi::Settings { chip_id: 0, efuse: 0b10_0110, rollback: 0, anti_rollback: 0 };
 const ROLLBACK: ffi::Settings = ffi::Settings { rollback: 1, ..OFF };
 const ANTI_ROLLBACK: ffi::Settings = ffi::Settings { anti_rollback: 1, ..ROLLBACK };
+/// On a chip with sixteen version bits, and ones above them.
+const SIXTEEN_BITS: ffi::Settings = ffi::Settings { chip_id: 16, efuse: 0xFFFF_0000 | OFF.efuse, ..ANTI_ROLLBACK };
+const SETTINGS: [ffi::Settings; 4] = [OFF, ROLLBACK, ANTI_ROLLBACK, SIXTEEN_BITS];
 
 /// Random lists of rewrites, beside the rewrites that are cut at every place.
 const LISTS: usize = 1_000;
@@ -85,7 +88,7 @@ fn every_cut(cuts: &mut Cuts) {
     for (turn, start) in starts.iter().enumerate() {
         for (step, new) in news.iter().enumerate() {
             // Each start meets each new record; sector, settings, factory and the other record take turns.
-            let settings = [OFF, ROLLBACK, ANTI_ROLLBACK][(turn + step / 2) % 3];
+            let settings = SETTINGS[(turn + step / 2) % 4];
             let factory = (step % 3 == 0 && settings.anti_rollback == 0).then_some(9);
             let other = others[(turn / 2 + step) % 2];
             let mut setup = Setup::new(4, start, (turn + step) % 2, &other, settings, factory);
@@ -99,7 +102,7 @@ fn every_cut(cuts: &mut Cuts) {
 fn lists_of_rewrites(cuts: &mut Cuts, seed: u64) {
     let mut rng = Rng::new(seed);
     for _ in 0..LISTS {
-        let settings = rng.pick(&[OFF, ROLLBACK, ANTI_ROLLBACK]);
+        let settings = rng.pick(&SETTINGS);
         let start = match rng.chance(30) {
             true => vec![0xFF; SECTOR_SIZE],
             false => sector_with(good_record(&mut rng), rng.pick(&[0xFF, 0x00, 0x5A])),
@@ -173,7 +176,7 @@ impl Setup {
         factory: Option<u32>,
     ) -> Setup {
         let slots: Vec<Option<u32>> = SLOTS.into_iter().cycle().take(n).collect();
-        let (list, flash) = plain_node(&slots, factory);
+        let (list, flash) = plain_node_of(settings.chip_id, &slots, factory);
         let partitions = partition::check(&list, flash.len()).unwrap();
         let mut otadata = vec![0xFF; OTADATA_SIZE];
         otadata[number * SECTOR_SIZE..][..SECTOR_SIZE].copy_from_slice(start);

@@ -1,10 +1,10 @@
-//! The examples of document 01, and those of document 02 with nine slots and more and of why a sector is empty, held on
-//! both sides: the model and the library.
+//! The examples of document 01, and those of document 02 with nine slots and more, of why a sector is empty and of sixteen
+//! version bits, held on both sides: the model and the library.
 
-use crate::calls::plain;
+use crate::calls::{image_refusal, plain};
 use ota_tests::boot::{self, App, Started};
 use ota_tests::ffi::{self, Node};
-use ota_tests::generate::{plain_image, plain_node, two_sectors};
+use ota_tests::generate::{plain_image, plain_node, plain_node_of, two_sectors};
 use ota_tests::record::{self, State};
 use ota_tests::refusal::number_of;
 use ota_tests::{image, partition, sector, settings, update};
@@ -23,6 +23,10 @@ pub fn run() -> usize {
         seventeen_slots,
         a_long_list_is_not_walked,
         registers,
+        registers_of_sixteen_bits,
+        versions,
+        boots_by_version,
+        marks_by_version,
         images,
         segment_lengths,
     ];
@@ -252,17 +256,139 @@ fn a_long_list_is_not_walked() {
     assert!(least < baseline, "{least:?} for a long list, {baseline:?} for a thousand of 51 words");
 }
 
+fn raise_both(chip_id: u16, register: u32, version: u32, raised: u32) {
+    let library = ffi::efuse_raise(chip_id, register, version);
+    both(library, settings::efuse_raise(chip_id, register, version), raised);
+}
+
 fn registers() {
-    for (version, raised) in [(3, 0x0B), (4, 0x0F), (5, 0x1F)] {
-        both(ffi::efuse_raise(0x0B, version), settings::efuse_raise(0x0B, version), raised);
+    for (version, raised) in [(3, 0x0B), (4, 0x0F), (5, 0x1F), (17, 0x1_FFFF), (32, !0), (33, !0)] {
+        raise_both(0, 0x0B, version, raised);
+    }
+    both(ffi::efuse_version(0, 0xFFFF_0000), settings::efuse_version(0, 0xFFFF_0000), 16);
+}
+
+/// On every chip but 0 the sixteen lowest bits count, and no other is set or cleared.
+fn registers_of_sixteen_bits() {
+    for chip_id in [1, 2, 5, 9, 13, 16, 0x0100, 0x8000, 0xFFFF] {
+        for (register, version) in
+            [(0xFFFF_0000, 0), (0xFFFF_0001, 1), (0x0000_FFFF, 16), (0x0001_FFFF, 16), (!0, 16), (0x8000_8000, 1)]
+        {
+            both(ffi::efuse_version(chip_id, register), settings::efuse_version(chip_id, register), version);
+        }
+        raise_both(chip_id, 0x0000_FFFF, 17, 0x0000_FFFF);
+        for (version, raised) in
+            [(0, 0), (1, 1), (2, 3), (15, 0x7FFF), (16, 0xFFFF), (17, 0xFFFF), (32, 0xFFFF), (!0, 0xFFFF)]
+        {
+            raise_both(chip_id, 0, version, raised);
+            raise_both(chip_id, 0xFFFF_0000, version, 0xFFFF_0000 | raised);
+            raise_both(chip_id, 0x8001_0000, version, 0x8001_0000 | raised);
+        }
     }
 }
 
-/// The number, and the whole length or the place.
+/// The highest version that a chip can hold is accepted, the next one refused with 29.
+fn versions() {
+    for (chip_id, highest) in [(0, 32), (5, 16), (16, 16), (0x0100, 16), (0xFFFF, 16)] {
+        for version in [0, 1, 15, 16, 17, 31, 32, 33, 0x0001_0000, 0xFFFF_FFFF] {
+            let expected = if version <= highest { (0, 304) } else { (29, 36) };
+            check_both_for(chip_id, &plain_image(chip_id, version, 256, false), expected);
+        }
+    }
+}
+
+/// A chip, a register, the version that it holds there, and the register raised to 16, 17 and 32, on those chips that can hold them.
+const REGISTERS: [(u16, u32, u32, [u32; 3]); 12] = [
+    (0, 0, 0, [0x0000_FFFF, 0x0001_FFFF, !0]),
+    (0, 0x0000_FFFF, 16, [0x0000_FFFF, 0x0001_FFFF, !0]),
+    (0, 0xFFFF_0000, 16, [0xFFFF_0000, 0xFFFF_0001, !0]),
+    (0, 0xFFFF_0001, 17, [0, 0xFFFF_0001, !0]),
+    (0, 0x7FFF_FFFF, 31, [0, 0, !0]),
+    (0, !0, 32, [0, 0, !0]),
+    (5, 0x0000_7FFF, 15, [0x0000_FFFF, 0, 0]),
+    (5, 0x8001_0000, 0, [0x8001_FFFF, 0, 0]),
+    (16, 0, 0, [0x0000_FFFF, 0, 0]),
+    (16, 0x0000_FFFF, 16, [0x0000_FFFF, 0, 0]),
+    (16, 0xFFFF_0000, 0, [0xFFFF_FFFF, 0, 0]),
+    (16, 0xFFFF_0100, 1, [0xFFFF_FFFF, 0, 0]),
+];
+
+/// Calls with each chip and register and each of versions 16, 17, 32 and 33: the settings with anti-rollback, the version, and the
+/// register raised to it where an app of that version passes.
+fn by_version(call: impl Fn(ffi::Settings, u32, Option<u32>)) {
+    for (chip_id, efuse, held, raised) in REGISTERS {
+        let highest = if chip_id == 0 { 32 } else { 16 };
+        let settings = ffi::Settings { chip_id, efuse, anti_rollback: 1, ..ROLLBACK };
+        for (version, raised) in [16, 17, 32].into_iter().zip(raised) {
+            call(settings, version, (held <= version && version <= highest).then_some(raised));
+        }
+        call(settings, 33, None);
+    }
+}
+
+/// Through a record the register stays; the last search raises it, while no sector holds a good record.
+fn boots_by_version() {
+    by_version(|settings, version, raised| {
+        let (list, flash) = plain_node_of(settings.chip_id, &[None, Some(version)], None);
+        for (record, sector, register) in [
+            (made(2, State::Valid), 0, Some(settings.efuse)),
+            (made(1, State::Invalid), 2, Some(settings.efuse)),
+            (None, 2, raised),
+        ] {
+            let otadata = two_sectors(record, None);
+            let (mut library, mut model) = (otadata.clone(), otadata.clone());
+            let mut out = [9; 4];
+            let node = Node { list: &list, flash: &flash, otadata: &mut library };
+            let number = ffi::boot(node, settings, &mut out);
+            let reply = boot::boot(&list, &flash, &mut model, &plain(settings));
+            let answer = match reply {
+                Ok(Started { app: App::Slot(slot), sector, efuse }) => [2, slot, sector.unwrap_or(2) as u32, efuse],
+                _ => [0, 0, 2, settings.efuse],
+            };
+            let expected = match (raised, register) {
+                (Some(_), Some(register)) => (0, [2, 1, sector, register]),
+                _ => (10, [0, 0, 2, settings.efuse]),
+            };
+            both((number, out), (number_of(&reply), answer), expected);
+            both(library, model, otadata);
+        }
+    });
+}
+
+/// Mark-valid raises the register to the version of the running app; a version that the chip can't hold is refused with 5 and 29, one
+/// below the eFuse version with 6, and the register comes back.
+fn marks_by_version() {
+    by_version(|settings, version, raised| {
+        let (list, flash) = plain_node_of(settings.chip_id, &[None, Some(version)], None);
+        let before = two_sectors(made(2, State::Pending), None);
+        let (mut library, mut model) = (before.clone(), before.clone());
+        let mut out = [9; 3];
+        let node = Node { list: &list, flash: &flash, otadata: &mut library };
+        let number = ffi::mark_valid(node, settings, 1, &mut out);
+        let reply = update::mark_valid(&list, &flash, &mut model, &plain(settings), 1);
+        let highest = if settings.chip_id == 0 { 32 } else { 16 };
+        let expected = match raised {
+            Some(register) => (0, [register.into(), 0, 0]),
+            None if version > highest => (5, [settings.efuse.into(), 29, 36]),
+            None => (6, [settings.efuse.into(), 0, 0]),
+        };
+        let [image_number, place] = image_refusal(&reply);
+        let answer = [reply.unwrap_or(settings.efuse).into(), image_number, place];
+        both((number, out), (number_of(&reply), answer), expected);
+        let state = if raised.is_some() { State::Valid } else { State::Pending };
+        both(library, model, two_sectors(made(2, state), None));
+    });
+}
+
+/// The number, and the whole length or the place, for chip 0.
 fn check_both(image: &[u8], expected: (u32, u64)) {
+    check_both_for(0, image, expected);
+}
+
+fn check_both_for(chip_id: u16, image: &[u8], expected: (u32, u64)) {
     let mut out = [9; 4];
-    let number = ffi::check_image(image, 0, &mut out);
-    let model = match image::check(image, 0) {
+    let number = ffi::check_image(image, chip_id, &mut out);
+    let model = match image::check(image, chip_id) {
         Ok(facts) => (0, facts.length),
         Err(refusal) => (refusal.number, refusal.place),
     };
