@@ -301,6 +301,7 @@ BAD = {
     "v17": (29, image(17)),
     "v32": (29, image(32)),
     "v33": (29, image(33)),
+    "v64": (29, image(64)),
 }
 IMAGES |= {name: made for name, (_, made) in BAD.items()}
 UNITS = {name: unit for unit, name in enumerate(IMAGES)}
@@ -507,15 +508,33 @@ def add_new(cases):
     cases.boot(PLAIN, (record(5, NEW), record(6, PENDING)), (0, 1, 0), writes=())
 
 
-# by version, on a chip with sixteen bits of it
-REGISTERS = {0: 0xFFFF0000, 1: 0x00018000, 2: 0x00000101, 3: 0x0B, 4: 0xF000F000, 5: 0x1F, 15: LAST - 4, 16: LAST}
-BY_VERSION = ["v0", "v1", "v2", "a", "v4", "v5", "v16"]
+# by version, on a chip with sixteen bits of it and on one with 32
+REGISTERS = {
+    CHIP: {0: 0xFFFF0000, 1: 0x00018000, 2: 0x00000101, 3: 0x0B, 4: 0xF000F000, 5: 0x1F, 15: LAST - 4, 16: LAST},
+    0: {0: 0, 1: 0x80000000, 2: 0x00010001, 3: 0x0B, 4: 0xF0000000, 5: 0x1F, 31: LAST - 4, 32: LAST},
+}
+BY_VERSION = {chip: ["v0", "v1", "v2", "a", "v4", "v5", f"v{width(chip)}"] for chip in REGISTERS}
 
 
-def add_anti_rollback(cases):
+def add_by_chip(cases):
+    """The cases of both widths, the images being for that chip while they are made: their checksums don't cover the header."""
+    for chip in REGISTERS:
+        add_chip_ids(cases, chip)
+        add_anti_rollback(cases, chip, ANTI._replace(chip=chip), ROLLBACK._replace(chip=chip))
+        add_register(cases, chip, ANTI._replace(chip=chip), ROLLBACK._replace(chip=chip))
+    add_chip_ids(cases, CHIP)
+
+
+def add_chip_ids(cases, chip):
+    for name, made in IMAGES.items():
+        if made[12:14] == CHIP.to_bytes(2, "little"):
+            cases.patch(UNIT * UNITS[name] + 12, chip.to_bytes(2, "little"))
+
+
+def add_anti_rollback(cases, chip, anti, rollback):
     """An app below the eFuse version does not pass: the active record's, the other one's and those of the search."""
-    settings = ANTI._replace(efuse=REGISTERS[3])
-    below_equal_above = (("v0", "a", "v4"), ("v1", "b", "v5"), ("v2", "c", "v16"))
+    settings = anti._replace(efuse=REGISTERS[chip][3])
+    below_equal_above = (("v0", "a", "v4"), ("v1", "b", "v5"), ("v2", "c", BY_VERSION[chip][-1]))
     for levels in itertools.product(range(3), repeat=3):
         cases.list(listed([names[level] for names, level in zip(below_equal_above, levels)]))
         for sector in (0, 1):
@@ -523,44 +542,44 @@ def add_anti_rollback(cases):
             want = next(((0, app, through, 0x0B) for level, app, through in ways if level > 0), (10, None, None, 0x0B))
             recs = record(5, VALID), record(4, UNDEFINED)
             cases.boot(settings, recs if sector == 0 else recs[::-1], want, writes=())
-    cases.list(listed(BY_VERSION))
-    for first, register in zip((0, 1, 2, 3, 4, 5, 6, 6), REGISTERS.values()):
+    cases.list(listed(BY_VERSION[chip]))
+    for first, register in zip((0, 1, 2, 3, 4, 5, 6, 6), REGISTERS[chip].values()):
         for slot in range(7):
             want = (0, slot, 1) if slot >= first else (0, first, None)
-            cases.boot(ANTI._replace(efuse=register), (BLANK, record(slot + 1, VALID)), want + (register,), writes=())
-            cases.boot(ROLLBACK._replace(efuse=register), (BLANK, record(slot + 8, VALID)), (0, slot, 1, register), writes=())
+            cases.boot(anti._replace(efuse=register), (BLANK, record(slot + 1, VALID)), want + (register,), writes=())
+            cases.boot(rollback._replace(efuse=register), (BLANK, record(slot + 8, VALID)), (0, slot, 1, register), writes=())
     cases.list(listed(["v2", "v1", "v0", "magic"]))
     for register in (0x07, 0x0B, LAST):
         for recs in ((record(2, VALID), record(1, NEW)), (BLANK, BLANK)):
-            cases.boot(ANTI._replace(efuse=register), recs, (10, None, None, register), writes=())
-        cases.boot(ROLLBACK._replace(efuse=register), (record(2, VALID), BLANK), (0, 1, 0, register), writes=())
+            cases.boot(anti._replace(efuse=register), recs, (10, None, None, register), writes=())
+        cases.boot(rollback._replace(efuse=register), (record(2, VALID), BLANK), (0, 1, 0, register), writes=())
 
 
-def add_register(cases):
+def add_register(cases, chip, anti, rollback):
     """Step 4: a search raises the register to the version of the app it found, with anti-rollback on and no good record."""
     nothing = [(first, second) for first in (BLANK, *DAMAGED.values()) for second in (BLANK, *DAMAGED.values())]
-    for name, version in zip(BY_VERSION, (0, 1, 2, 3, 4, 5, 16)):
+    for name, version in zip(BY_VERSION[chip], (0, 1, 2, 3, 4, 5, width(chip))):
         cases.list(listed(["v33", name]))
-        for v, register in REGISTERS.items():
-            want = (0, 1, None, raised(register, version, CHIP)) if version >= v else (10, None, None, register)
-            cases.boot(ANTI._replace(efuse=register), (BLANK, BLANK), want, writes=())
-        cases.boot(ROLLBACK._replace(efuse=5), (BLANK, BLANK), (0, 1, None, 5), writes=())
+        for v, register in REGISTERS[chip].items():
+            want = (0, 1, None, raised(register, version, chip)) if version >= v else (10, None, None, register)
+            cases.boot(anti._replace(efuse=register), (BLANK, BLANK), want, writes=())
+        cases.boot(rollback._replace(efuse=5), (BLANK, BLANK), (0, 1, None, 5), writes=())
     cases.list(listed(["v4", "v5", "v2"]))
     for recs in nothing:
-        cases.boot(ANTI._replace(efuse=0x0B), recs, (0, 0, None, 0x0F), writes=())
+        cases.boot(anti._replace(efuse=0x0B), recs, (0, 0, None, 0x0F), writes=())
     for recs in nothing[:10]:
-        cases.boot(ROLLBACK._replace(efuse=0x0B), recs, (0, 0, None, 0x0B), writes=())
-        cases.boot(PLAIN._replace(efuse=0x0B), recs, (0, 0, None, 0x0B), writes=())
+        cases.boot(rollback._replace(efuse=0x0B), recs, (0, 0, None, 0x0B), writes=())
+        cases.boot(rollback._replace(rollback=False, efuse=0x0B), recs, (0, 0, None, 0x0B), writes=())
     for state in (INVALID, ABORTED, PENDING):  # a search with a good record, in either sector, raises nothing
         marks = [0] if state == PENDING else []
         for empty in (BLANK, DAMAGED["check word"]):
-            cases.boot(ANTI._replace(efuse=0x0B), (record(1, state), empty), (0, 1, None, 0x0B), writes=marks)
-            cases.boot(ANTI._replace(efuse=0x0B), (empty, record(2, state)), (0, 0, None, 0x0B), writes=[1 for _ in marks])
+            cases.boot(anti._replace(efuse=0x0B), (record(1, state), empty), (0, 1, None, 0x0B), writes=marks)
+            cases.boot(anti._replace(efuse=0x0B), (empty, record(2, state)), (0, 0, None, 0x0B), writes=[1 for _ in marks])
     for state in (VALID, UNDEFINED, NEW):  # nor where the record's own app is below the version, or passes
-        cases.boot(ANTI._replace(efuse=0x0B), (record(3, state), BLANK), (0, 0, None, 0x0B), writes=())
-        cases.boot(ANTI._replace(efuse=0x0B), (BLANK, record(2, state)), (0, 1, 1, 0x0B), writes=[1] if state == NEW else [])
+        cases.boot(anti._replace(efuse=0x0B), (record(3, state), BLANK), (0, 0, None, 0x0B), writes=())
+        cases.boot(anti._replace(efuse=0x0B), (BLANK, record(2, state)), (0, 1, 1, 0x0B), writes=[1] if state == NEW else [])
     cases.list(listed(["magic", "v1"], "v5"))  # with anti-rollback off factory leaves it too
-    cases.boot(ROLLBACK._replace(efuse=0), (BLANK, BLANK), (0, FACTORY, None, 0), writes=())
+    cases.boot(rollback._replace(efuse=0), (BLANK, BLANK), (0, FACTORY, None, 0), writes=())
 
 
 def add_widths(cases):
@@ -699,7 +718,7 @@ def add_random(cases, rand):
     for _ in range(100):
         n = rand.choice((2, 2, 3, 3, *range(2, 17)))
         share = rand.choice((0.2, 0.5, 0.8))
-        good = rand.sample(GOOD + BY_VERSION[:3] + BY_VERSION[4:] + ["flagged", "whole"], n + 1)
+        good = rand.sample(GOOD + BY_VERSION[CHIP][:3] + BY_VERSION[CHIP][4:] + ["flagged", "whole"], n + 1)
         bad = rand.sample(FAILING, n + 1)
         names = [good[k] if rand.random() < share else bad[k] for k in range(n + 1)]
         factory = names[n] if rand.random() < 0.4 else None
@@ -712,7 +731,7 @@ def add_random(cases, rand):
             rollback = rand.random() < 0.7
             anti = rollback and factory is None and rand.random() < 0.6 or rand.random() < 0.04
             chip = OTHER_CHIP if rand.random() < 0.04 else CHIP
-            efuse = rand.choice((*REGISTERS.values(), 0x03, 0x11, 0x0B, 0x07, rand.getrandbits(32)))
+            efuse = rand.choice((*REGISTERS[CHIP].values(), 0x03, 0x11, 0x0B, 0x07, rand.getrandbits(32)))
             length = rand.choice((0, 4096, 8191, 8193)) if rand.random() < 0.02 else 8192
             seeds = rand.choice((0, 0, 5)), rand.choice((0, 9))
             cases.boot(Settings(rollback, anti, efuse, chip), recs, length=length, seeds=seeds)
@@ -796,7 +815,7 @@ def add_all(cases):
     """Gives the number of boots and of rewrites of which all cuts are made."""
     boots = Boots(cases)
     for add in (add_flash, add_examples, add_active, add_grid, add_fallbacks, add_same_slot, add_search, add_marks, add_new,
-                add_anti_rollback, add_register, add_widths, add_damaged, add_bytes, add_refusals, add_images, add_lives):
+                add_by_chip, add_widths, add_damaged, add_bytes, add_refusals, add_images, add_lives):
         add(boots)
     add_random(boots, random.Random(20261117))
     assert set(boots.met) == {0, 1, 2, 3, 10} and boots.flash.met == {0, *range(21, 30)}

@@ -15,26 +15,31 @@ use Rattle.efuse.proofs.Setting.{set-none, set-full, set-one-more, set-
 abbrev pub found : ℕ → ℕ → ℕ
 found W r = 1 * 2 ^ trailingZeros W (clear W r) % 2 ^ W
 
--- of the word's W bits the w lowest count, and one of these is clear
-module _ (w W r : ℕ) (within : w ≤ W) (fits : r < 2 ^ W) (some : onesIn w r < w) where
+-- of the W bits of a word the w lowest count, and one of these is clear
+pub record SomeClear (w W r : ℕ) : Type 0 where
+  pub within : w ≤ W
+  pub fits : r < 2 ^ W
+  pub some : onesIn w r < w
+
+module _ {w W r : ℕ} (clear-one : SomeClear w W r) where
   some-of-all : onesIn W r < W
-  some-of-all = omega (arith, ones-in-wider w W r within)
+  some-of-all = omega (arith, clear-one .some, ones-in-wider w W r (clear-one .within))
 
   pub found-below : trailingZeros W (clear W r) < W
-  found-below = lowest-clear W r fits some-of-all
+  found-below = lowest-clear W r (clear-one .fits) some-of-all
 
   -- the shift loses nothing
   found-bit : found W r ≡ 2 ^ trailingZeros W (clear W r)
   found-bit = let l : 1 * 2 ^ trailingZeros W (clear W r) < 2 ^ W = omega (arith, pow-lt found-below) in mod-eq-of-lt l ∙ omega arith
 
   pub turn-sets : bitOr r (found W r) ≡ setLowest w 1 r
-  turn-sets = rw found-bit (or-lowest W r fits some-of-all) ∙ set-within w W 1 r within (omega arith)
+  turn-sets = rw found-bit (or-lowest W r (clear-one .fits) some-of-all) ∙ set-within w W 1 r (clear-one .within) (omega (arith, clear-one .some))
 
   pub turn-fits : bitOr r (found W r) < 2 ^ W
-  turn-fits = rw found-bit (or-lt W r (2 ^ trailingZeros W (clear W r)) fits (pow-lt found-below))
+  turn-fits = rw found-bit (or-lt W r (2 ^ trailingZeros W (clear W r)) (clear-one .fits) (pow-lt found-below))
 
   pub turn-counts : onesIn w (bitOr r (found W r)) ≡ onesIn w r + 1
-  turn-counts = rw turn-sets (omega (arith, count-set w 1 r))
+  turn-counts = rw turn-sets (omega (arith, clear-one .some, count-set w 1 r))
 
   -- after a turn what is left to do gives the same
   pub turn-same : (v : ℕ) → onesIn w r < v → raised w (bitOr r (found W r)) v ≡ raised w r v

@@ -1,12 +1,12 @@
 -- `efuse::raise` meets its contract. The loop's invariant: raising what is reached gives what raising the whole gives, to each
 -- version with this goal.
 -- Assumes nothing.
-use Prim.Native.Nat.{ℕ, _<_, _≤_, _-_, _^_, min}
+use Prim.Native.Nat.{ℕ, _<_, _-_, _^_, min}
 use mathlib.Core.Path.{_≡_, refl, sym, _∙_}
 use native.Mathlib.Omega.{arith}
 use lib.Count.{onesIn}
 use Rattle.efuse.specs.Register.{width, raised as raisedTo}
-use Rattle.efuse.proofs.Raising.{found-below, turn-fits, turn-counts, turn-same, raise-end}
+use Rattle.efuse.proofs.Raising.{SomeClear, found-below, turn-fits, turn-counts, turn-same, raise-end}
 use Rattle.efuse.proofs.Widths.{width-within}
 use Rattle.efuse.proofs.raise.Statement.{statement}
 use Rattle.efuse.proofs.raise.Tie as tie
@@ -26,7 +26,7 @@ loop-holds c = (λ v e. refl, omega arith)
 version-requires : tie.Need-version-requires Inv-loop μ-loop
 version-requires c κs = tt
 
--- in a turn some bit that counts is clear, and the goal is not reached
+-- in a turn the goal is not reached, and some bit that counts is clear
 module _ (c : tie.Then1 Inv-loop μ-loop) where
   abbrev w : ℕ
   w = width (c .before .before .before .before .before .args .chip)
@@ -34,29 +34,23 @@ module _ (c : tie.Then1 Inv-loop μ-loop) where
   abbrev r : ℕ
   r = c .before .before .before .loop .raised
 
-  within : w ≤ 32
-  within = width-within _ .1
-
-  fits : r < 2 ^ 32
-  fits = c .before .before .before .loop .inv .1
-
   below : onesIn w r < c .before .before .before .before .reachable .result
   below = omega arith
 
-  some : onesIn w r < w
-  some = omega (arith, below)
+  clear-one : SomeClear w 32 r
+  clear-one = record { within = width-within _ .1; fits = c .before .before .before .loop .inv .1; some = omega (arith, below) }
 
 shl-raised : tie.Need-shl-raised Inv-loop μ-loop
-shl-raised c = found-below (w c) 32 (r c) (within c) (fits c) (some c)
+shl-raised c = found-below (clear-one c)
 
 loop-again : tie.Need-loop-again Inv-loop μ-loop
 loop-again c = (
-  λ v e. turn-same (w c) 32 (r c) (within c) (fits c) (some c) v (omega (arith, below c)) ∙ c .before .before .before .loop .inv .0 v e,
-  turn-fits (w c) 32 (r c) (within c) (fits c) (some c),
+  λ v e. turn-same (clear-one c) v (omega (arith, below c)) ∙ c .before .before .before .loop .inv .0 v e,
+  turn-fits (clear-one c),
 )
 
 loop-less : tie.Need-loop-less Inv-loop μ-loop
-loop-less c = omega (arith, below c, turn-counts (w c) 32 (r c) (within c) (fits c) (some c))
+loop-less c = omega (arith, below c, turn-counts (clear-one c))
 
 returns : tie.Need-returns Inv-loop μ-loop
 returns c =

@@ -297,32 +297,34 @@ fn versions() {
     }
 }
 
-/// A chip, a register, the version that it holds there, and the register raised to 16, 17 and 32, on those chips that can hold them.
-const REGISTERS: [(u16, u32, u32, [u32; 3]); 12] = [
-    (0, 0, 0, [0x0000_FFFF, 0x0001_FFFF, !0]),
-    (0, 0x0000_FFFF, 16, [0x0000_FFFF, 0x0001_FFFF, !0]),
-    (0, 0xFFFF_0000, 16, [0xFFFF_0000, 0xFFFF_0001, !0]),
-    (0, 0xFFFF_0001, 17, [0, 0xFFFF_0001, !0]),
-    (0, 0x7FFF_FFFF, 31, [0, 0, !0]),
-    (0, !0, 32, [0, 0, !0]),
-    (5, 0x0000_7FFF, 15, [0x0000_FFFF, 0, 0]),
-    (5, 0x8001_0000, 0, [0x8001_FFFF, 0, 0]),
-    (16, 0, 0, [0x0000_FFFF, 0, 0]),
-    (16, 0x0000_FFFF, 16, [0x0000_FFFF, 0, 0]),
-    (16, 0xFFFF_0000, 0, [0xFFFF_FFFF, 0, 0]),
-    (16, 0xFFFF_0100, 1, [0xFFFF_FFFF, 0, 0]),
+/// An app of that version is below the eFuse version, or its image is refused.
+const BELOW: Result<u32, u32> = Err(6);
+const TOO_HIGH: Result<u32, u32> = Err(29);
+
+/// A chip, a register, and the register raised to 16, 17 and 32, or why an app of that version doesn't pass.
+const REGISTERS: [(u16, u32, [Result<u32, u32>; 3]); 12] = [
+    (0, 0, [Ok(0x0000_FFFF), Ok(0x0001_FFFF), Ok(!0)]),
+    (0, 0x0000_FFFF, [Ok(0x0000_FFFF), Ok(0x0001_FFFF), Ok(!0)]),
+    (0, 0xFFFF_0000, [Ok(0xFFFF_0000), Ok(0xFFFF_0001), Ok(!0)]),
+    (0, 0xFFFF_0001, [BELOW, Ok(0xFFFF_0001), Ok(!0)]),
+    (0, 0x7FFF_FFFF, [BELOW, BELOW, Ok(!0)]),
+    (0, !0, [BELOW, BELOW, Ok(!0)]),
+    (5, 0x0000_7FFF, [Ok(0x0000_FFFF), TOO_HIGH, TOO_HIGH]),
+    (5, 0x8001_0000, [Ok(0x8001_FFFF), TOO_HIGH, TOO_HIGH]),
+    (16, 0, [Ok(0x0000_FFFF), TOO_HIGH, TOO_HIGH]),
+    (16, 0x0000_FFFF, [Ok(0x0000_FFFF), TOO_HIGH, TOO_HIGH]),
+    (16, 0xFFFF_0000, [Ok(0xFFFF_FFFF), TOO_HIGH, TOO_HIGH]),
+    (16, 0xFFFF_0100, [Ok(0xFFFF_FFFF), TOO_HIGH, TOO_HIGH]),
 ];
 
-/// Calls with each chip and register and each of versions 16, 17, 32 and 33: the settings with anti-rollback, the version, and the
-/// register raised to it where an app of that version passes.
-fn by_version(call: impl Fn(ffi::Settings, u32, Option<u32>)) {
-    for (chip_id, efuse, held, raised) in REGISTERS {
-        let highest = if chip_id == 0 { 32 } else { 16 };
+/// Calls with each chip and register, with anti-rollback, and each of versions 16, 17, 32 and 33.
+fn by_version(call: impl Fn(ffi::Settings, u32, Result<u32, u32>)) {
+    for (chip_id, efuse, raised) in REGISTERS {
         let settings = ffi::Settings { chip_id, efuse, anti_rollback: 1, ..ROLLBACK };
         for (version, raised) in [16, 17, 32].into_iter().zip(raised) {
-            call(settings, version, (held <= version && version <= highest).then_some(raised));
+            call(settings, version, raised);
         }
-        call(settings, 33, None);
+        call(settings, 33, TOO_HIGH);
     }
 }
 
@@ -330,11 +332,10 @@ fn by_version(call: impl Fn(ffi::Settings, u32, Option<u32>)) {
 fn boots_by_version() {
     by_version(|settings, version, raised| {
         let (list, flash) = plain_node_of(settings.chip_id, &[None, Some(version)], None);
-        for (record, sector, register) in [
-            (made(2, State::Valid), 0, Some(settings.efuse)),
-            (made(1, State::Invalid), 2, Some(settings.efuse)),
-            (None, 2, raised),
-        ] {
+        let kept = raised.and(Ok(settings.efuse));
+        for (record, sector, register) in
+            [(made(2, State::Valid), 0, kept), (made(1, State::Invalid), 2, kept), (None, 2, raised)]
+        {
             let otadata = two_sectors(record, None);
             let (mut library, mut model) = (otadata.clone(), otadata.clone());
             let mut out = [9; 4];
@@ -345,9 +346,9 @@ fn boots_by_version() {
                 Ok(Started { app: App::Slot(slot), sector, efuse }) => [2, slot, sector.unwrap_or(2) as u32, efuse],
                 _ => [0, 0, 2, settings.efuse],
             };
-            let expected = match (raised, register) {
-                (Some(_), Some(register)) => (0, [2, 1, sector, register]),
-                _ => (10, [0, 0, 2, settings.efuse]),
+            let expected = match register {
+                Ok(register) => (0, [2, 1, sector, register]),
+                Err(_) => (10, [0, 0, 2, settings.efuse]),
             };
             both((number, out), (number_of(&reply), answer), expected);
             both(library, model, otadata);
@@ -366,16 +367,15 @@ fn marks_by_version() {
         let node = Node { list: &list, flash: &flash, otadata: &mut library };
         let number = ffi::mark_valid(node, settings, 1, &mut out);
         let reply = update::mark_valid(&list, &flash, &mut model, &plain(settings), 1);
-        let highest = if settings.chip_id == 0 { 32 } else { 16 };
         let expected = match raised {
-            Some(register) => (0, [register.into(), 0, 0]),
-            None if version > highest => (5, [settings.efuse.into(), 29, 36]),
-            None => (6, [settings.efuse.into(), 0, 0]),
+            Ok(register) => (0, [register.into(), 0, 0]),
+            TOO_HIGH => (5, [settings.efuse.into(), 29, 36]),
+            Err(number) => (number, [settings.efuse.into(), 0, 0]),
         };
         let [image_number, place] = image_refusal(&reply);
         let answer = [reply.unwrap_or(settings.efuse).into(), image_number, place];
         both((number, out), (number_of(&reply), answer), expected);
-        let state = if raised.is_some() { State::Valid } else { State::Pending };
+        let state = if raised.is_ok() { State::Valid } else { State::Pending };
         both(library, model, two_sectors(made(2, state), None));
     });
 }
