@@ -18,6 +18,7 @@ extern "C" {
         otadata: *mut u8,
         otadata_len: usize,
         chip_id: u16,
+        revision: u16,
         efuse: u32,
         rollback: u8,
         anti_rollback: u8,
@@ -27,7 +28,9 @@ extern "C" {
 
 const SLOT_SIZE: usize = 0x10000;
 const SECTOR_SIZE: usize = 4096;
+/// An ESP32 of revision 3.1.
 const CHIP_ID: u16 = 0;
+const REVISION: u16 = 301;
 const NEW: u32 = 0;
 const VALID: u32 = 2;
 
@@ -35,10 +38,11 @@ const VALID: u32 = 2;
 const LIST: [u32; 6] = [16, 0, SLOT_SIZE as u32, 17, SLOT_SIZE as u32, SLOT_SIZE as u32];
 
 /// Puts a small image into a slot, as a build tool makes it: one segment of 256 bytes with the app's descriptor.
-fn put_image(slot: &mut [u8], version: u8) {
+fn put_image(slot: &mut [u8], entry: u32, version: u8) {
     slot[..304].fill(0);
     slot[0] = 0xE9; // magic
     slot[1] = 1; // segments
+    slot[4..8].copy_from_slice(&entry.to_le_bytes()); // the entry address
     slot[29] = 1; // the segment's length, 256
     slot[32..36].copy_from_slice(&0xABCD5432_u32.to_le_bytes());
     slot[36] = version; // the secure version
@@ -54,15 +58,15 @@ fn put_record(sector: &mut [u8], sequence: u32, state: u32) {
     }
 }
 
-/// Boots with rollback on and anti-rollback off, and says what was decided.
+/// Boots with no version burned, rollback on and anti-rollback off, and says what was decided.
 fn boot(flash: &[u8], otadata: &mut [u8]) {
-    let (flash_len, otadata_len, mut out) = (flash.len(), otadata.len(), [0; 4]);
+    let (flash_len, otadata_len, mut out) = (flash.len(), otadata.len(), [0; 6]);
     let (list, flash, otadata) = (LIST.as_ptr(), flash.as_ptr(), otadata.as_mut_ptr());
     let number = unsafe {
-        ota_boot(list, LIST.len(), flash, flash_len, otadata, otadata_len, CHIP_ID, 0, 1, 0, out.as_mut_ptr())
+        ota_boot(list, LIST.len(), flash, flash_len, otadata, otadata_len, CHIP_ID, REVISION, 0, 1, 0, out.as_mut_ptr())
     };
     match number {
-        0 => println!("boot starts slot {} through sector {}", out[1], out[2]),
+        0 => println!("boot starts slot {} through sector {}, entry {:#010x}", out[1], out[2], out[5]),
         _ => println!("boot refused with {number}"),
     }
 }
@@ -70,8 +74,8 @@ fn boot(flash: &[u8], otadata: &mut [u8]) {
 fn main() {
     let mut flash = vec![0xFF; 2 * SLOT_SIZE];
     let mut otadata = vec![0xFF; 2 * SECTOR_SIZE];
-    put_image(&mut flash, 1);
-    put_image(&mut flash[SLOT_SIZE..], 2);
+    put_image(&mut flash, 0x4008_0000, 1);
+    put_image(&mut flash[SLOT_SIZE..], 0x4008_0400, 2);
     put_record(&mut otadata[..SECTOR_SIZE], 1, VALID);
     put_record(&mut otadata[SECTOR_SIZE..], 2, NEW);
 

@@ -70,31 +70,36 @@ uint32_t ota_efuse_raise(uint16_t chip_id, uint32_t efuse, uint32_t version);
 
 /* ---- the node
  *
- * The calls below take the partition list, the flash and otadata, and all but the query the settings: chip id, eFuse
- * register, and two flags, on where not 0. A refusal gives the register as it was given. */
+ * The calls below take the partition list, the flash and otadata, and all but the query the settings: chip id, the chip's revision,
+ * eFuse register, and two flags, on where not 0. The revision is major * 100 + minor; no call reads it yet. A refusal gives the register as
+ * it was given, and zero for the length and the entry address of an image. ota_node.h has these calls over structs. */
 
 /* Decides which app starts, and changes the states of the records.
- * out = {1 factory or 2 slot; slot; sector used, or 2 for none; register}. Refused: out = {0, 0, 2, register}. */
+ * out = {1 factory or 2 slot; slot; sector used, or 2 for none; register; whole length, entry address of the app's image}.
+ * Refused: out = {0, 0, 2, register, 0, 0}. */
 uint32_t ota_boot(const uint32_t *list, size_t words, const uint8_t *flash, size_t flash_len,
                   uint8_t *otadata, size_t otadata_len,
-                  uint16_t chip_id, uint32_t efuse, uint8_t rollback, uint8_t anti_rollback, uint32_t out[4]);
+                  uint16_t chip_id, uint16_t revision, uint32_t efuse, uint8_t rollback, uint8_t anti_rollback,
+                  uint32_t out[6]);
 
-/* Makes a slot the one to start next. out = {image number, place} where it returns 5, else zero. */
+/* Makes a slot the one to start next. out = {image number, place, whole length, entry address}: the first two are zero unless it
+ * returns 5, and the last two, of the slot's image, unless it returns 0. */
 uint32_t ota_set_boot(const uint32_t *list, size_t words, const uint8_t *flash, size_t flash_len,
                       uint8_t *otadata, size_t otadata_len,
-                      uint16_t chip_id, uint32_t efuse, uint8_t rollback, uint8_t anti_rollback,
-                      uint32_t slot, uint64_t out[2]);
+                      uint16_t chip_id, uint16_t revision, uint32_t efuse, uint8_t rollback, uint8_t anti_rollback,
+                      uint32_t slot, uint64_t out[4]);
 
-/* Marks the running slot valid. out = {register to burn, image number, place}, the last two zero unless it returns 5. */
+/* Marks the running slot valid. out = {register to burn, image number, place, whole length, entry address}, the last four as of
+ * ota_set_boot. */
 uint32_t ota_mark_valid(const uint32_t *list, size_t words, const uint8_t *flash, size_t flash_len,
                         uint8_t *otadata, size_t otadata_len,
-                        uint16_t chip_id, uint32_t efuse, uint8_t rollback, uint8_t anti_rollback,
-                        uint32_t slot, uint64_t out[3]);
+                        uint16_t chip_id, uint16_t revision, uint32_t efuse, uint8_t rollback, uint8_t anti_rollback,
+                        uint32_t slot, uint64_t out[5]);
 
 /* Marks the running slot invalid, unless nothing else could be started. */
 uint32_t ota_mark_invalid(const uint32_t *list, size_t words, const uint8_t *flash, size_t flash_len,
                           uint8_t *otadata, size_t otadata_len,
-                          uint16_t chip_id, uint32_t efuse, uint8_t rollback, uint8_t anti_rollback,
+                          uint16_t chip_id, uint16_t revision, uint32_t efuse, uint8_t rollback, uint8_t anti_rollback,
                           uint32_t slot);
 
 /* Gives the state of the record that names a slot. out = {state word}. */
@@ -105,7 +110,7 @@ uint32_t ota_state_query(const uint32_t *list, size_t words, const uint8_t *flas
 /* Gives the slot to write an update to, from the running slot, or 0xFFFFFFFF for factory. out = {slot}. */
 uint32_t ota_next_slot(const uint32_t *list, size_t words, const uint8_t *flash, size_t flash_len,
                        const uint8_t *otadata, size_t otadata_len,
-                       uint16_t chip_id, uint32_t efuse, uint8_t rollback, uint8_t anti_rollback,
+                       uint16_t chip_id, uint16_t revision, uint32_t efuse, uint8_t rollback, uint8_t anti_rollback,
                        uint32_t running, uint32_t out[1]);
 
 #ifdef __cplusplus

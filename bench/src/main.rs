@@ -189,13 +189,13 @@ fn boot_slots(name: &str, n: u32, size: usize) {
 }
 
 fn time_boot(name: &str, list: &[u32], flash: &[u8], otadata: Vec<u8>, expected: [u32; 3]) {
-    let settings = ffi::Settings { chip_id: 0, efuse: 0, rollback: 1, anti_rollback: 0 };
-    let model_settings = Settings { chip_id: 0, efuse: 0, rollback: true, anti_rollback: false };
+    let settings = ffi::Settings { chip_id: 0, revision: 0, efuse: 0, rollback: 1, anti_rollback: 0 };
+    let model_settings = Settings { chip_id: 0, revision: 0, efuse: 0, rollback: true, anti_rollback: false };
     let [mut first, mut second] = [otadata.clone(), otadata.clone()];
     row(
         name,
         || {
-            let mut out = [0; 4];
+            let mut out = [0; 6];
             let node = Node { list: black_box(list), flash: black_box(flash), otadata: black_box(&mut first) };
             assert_eq!((ffi::boot(node, settings, &mut out), &out[..3]), (0, &expected[..]));
         },

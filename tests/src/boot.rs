@@ -1,6 +1,6 @@
 //! The boot choice: tests 1 to 3, which app passes, which is chosen, and the marks that boot makes.
 
-use crate::image::{self, Facts};
+use crate::image::{self, Facts, Loadable};
 use crate::partition::{self, Partitions};
 use crate::record::{Record, State};
 use crate::refusal::Refusal;
@@ -13,12 +13,13 @@ pub enum App {
     Slot(u32),
 }
 
-/// The reply of a boot: the app, the sector whose record it came through, and the register to burn.
+/// The reply of a boot: the app, the sector whose record it came through, the register to burn, and the app's image.
 #[derive(Clone, Copy, PartialEq, Eq, Debug)]
 pub struct Started {
     pub app: App,
     pub sector: Option<usize>,
     pub efuse: u32,
+    pub image: Loadable,
 }
 
 /// Tests 1 and 2: the list and the flash's length, then the size of otadata.
@@ -83,21 +84,26 @@ fn choose(
 ) -> Option<Started> {
     let n = partitions.n();
     let passes = |app: App| passes(partitions, flash, settings, app);
-    let started = |app: App, sector: Option<usize>| Started { app, sector, efuse: settings.efuse };
+    let started = |app: App, sector: Option<usize>, facts: Facts| Started {
+        app,
+        sector,
+        efuse: settings.efuse,
+        image: facts.loadable(),
+    };
 
     // The active record's slot, then the other usable record's.
     if let Some(first) = active(readings) {
         for number in [first, 1 - first] {
             if let Some(record) = readings[number].filter(Record::usable) {
                 let app = App::Slot(record.slot(n));
-                if passes(app).is_some() {
-                    return Some(started(app, Some(number)));
+                if let Some(facts) = passes(app) {
+                    return Some(started(app, Some(number), facts));
                 }
             }
         }
     }
-    if passes(App::Factory).is_some() {
-        return Some(started(App::Factory, None));
+    if let Some(facts) = passes(App::Factory) {
+        return Some(started(App::Factory, None, facts));
     }
     // The search: the first slot that no failed record names and that passes.
     let good = || readings.iter().flatten();
@@ -106,7 +112,7 @@ fn choose(
             continue;
         }
         if let Some(facts) = passes(App::Slot(slot)) {
-            let mut reply = started(App::Slot(slot), None);
+            let mut reply = started(App::Slot(slot), None, facts);
             if settings.anti_rollback && good().next().is_none() {
                 reply.efuse = efuse_raise(settings.chip_id, settings.efuse, facts.version);
             }
@@ -119,23 +125,26 @@ fn choose(
 #[cfg(test)]
 mod tests {
     use super::*;
-    use crate::generate::{plain_node, two_sectors};
+    use crate::generate::{plain_loadable, plain_node, two_sectors};
     use crate::record::make;
 
     fn record(sequence: u32, state: State) -> Option<[u8; 32]> {
         Some(make(sequence, &[0xFF; 20], state.word()).unwrap())
     }
 
-    const OFF: Settings = Settings { chip_id: 0, efuse: 0, rollback: false, anti_rollback: false };
+    const OFF: Settings = Settings { chip_id: 0, revision: 301, efuse: 0, rollback: false, anti_rollback: false };
     const ROLLBACK: Settings = Settings { rollback: true, ..OFF };
+
+    fn start_of_slot(slot: u32, sector: Option<usize>) -> Started {
+        Started { app: App::Slot(slot), sector, efuse: 0, image: plain_loadable(slot as usize) }
+    }
 
     #[test]
     fn four_valid_and_five_aborted() {
         let (list, flash) = plain_node(&[None, Some(1)], None);
         let mut otadata = two_sectors(record(4, State::Valid), record(5, State::Aborted));
         let before = otadata.clone();
-        let started = Started { app: App::Slot(1), sector: Some(0), efuse: 0 };
-        assert_eq!(boot(&list, &flash, &mut otadata, &ROLLBACK), Ok(started));
+        assert_eq!(boot(&list, &flash, &mut otadata, &ROLLBACK), Ok(start_of_slot(1, Some(0))));
         assert_eq!(otadata, before);
     }
 
@@ -143,7 +152,7 @@ mod tests {
     fn a_new_app_has_one_trial() {
         let (list, flash) = plain_node(&[Some(1), Some(1)], None);
         let mut otadata = two_sectors(record(1, State::Valid), record(2, State::New));
-        let started = |slot, sector| Ok(Started { app: App::Slot(slot), sector: Some(sector), efuse: 0 });
+        let started = |slot, sector| Ok(start_of_slot(slot, Some(sector)));
         assert_eq!(boot(&list, &flash, &mut otadata, &ROLLBACK), started(1, 1));
         assert_eq!(otadata, two_sectors(record(1, State::Valid), record(2, State::Pending)));
         assert_eq!(boot(&list, &flash, &mut otadata.clone(), &OFF), started(1, 1));
@@ -164,10 +173,28 @@ mod tests {
         let settings = Settings { efuse: 0b1000, anti_rollback: true, ..ROLLBACK };
         let (list, flash) = plain_node(&[Some(0), Some(3)], None);
         let mut otadata = two_sectors(None, None);
-        let started = Started { app: App::Slot(1), sector: None, efuse: 0b1011 };
+        let started = Started { efuse: 0b1011, ..start_of_slot(1, None) };
         assert_eq!(boot(&list, &flash, &mut otadata, &settings), Ok(started));
         let mut otadata = two_sectors(record(1, State::Invalid), None);
         let started = Started { efuse: 0b1000, ..started };
         assert_eq!(boot(&list, &flash, &mut otadata, &settings), Ok(started));
+    }
+
+    /// Through the active record, through the other one, factory and the search: each gives the image that was checked.
+    #[test]
+    fn each_way_gives_its_image() {
+        let (list, flash) = plain_node(&[Some(1), Some(1), None], Some(1));
+        let (no_factory, slot_2) = plain_node(&[None, None, Some(1)], None);
+        let (active, other) = (record(2, State::Valid), record(1, State::Valid));
+        let erased = record(3, State::Valid);
+        for (list, flash, first, second, app, sector, length, entry) in [
+            (&list, &flash, active, other, App::Slot(1), Some(0), 352, 0x410A_0304),
+            (&list, &flash, other, erased, App::Slot(0), Some(0), 304, 0x4008_0000),
+            (&list, &flash, None, erased, App::Factory, None, 384, 0x430E_090C),
+            (&no_factory, &slot_2, active, other, App::Slot(2), None, 336, 0x420C_0608),
+        ] {
+            let started = Started { app, sector, efuse: 0, image: Loadable { length, entry } };
+            assert_eq!(boot(list, flash, &mut two_sectors(first, second), &ROLLBACK), Ok(started));
+        }
     }
 }

@@ -6,6 +6,7 @@
 #[derive(Clone, Copy, PartialEq, Eq, Debug)]
 pub struct Settings {
     pub chip_id: u16,
+    pub revision: u16,
     pub efuse: u32,
     pub rollback: u8,
     pub anti_rollback: u8,
@@ -40,6 +41,7 @@ mod c {
             otadata: *mut u8,
             otadata_len: usize,
             chip_id: u16,
+            revision: u16,
             efuse: u32,
             rollback: u8,
             anti_rollback: u8,
@@ -53,6 +55,7 @@ mod c {
             otadata: *mut u8,
             otadata_len: usize,
             chip_id: u16,
+            revision: u16,
             efuse: u32,
             rollback: u8,
             anti_rollback: u8,
@@ -67,6 +70,7 @@ mod c {
             otadata: *mut u8,
             otadata_len: usize,
             chip_id: u16,
+            revision: u16,
             efuse: u32,
             rollback: u8,
             anti_rollback: u8,
@@ -81,6 +85,7 @@ mod c {
             otadata: *mut u8,
             otadata_len: usize,
             chip_id: u16,
+            revision: u16,
             efuse: u32,
             rollback: u8,
             anti_rollback: u8,
@@ -104,6 +109,7 @@ mod c {
             otadata: *const u8,
             otadata_len: usize,
             chip_id: u16,
+            revision: u16,
             efuse: u32,
             rollback: u8,
             anti_rollback: u8,
@@ -173,6 +179,7 @@ macro_rules! call_node {
                 node.otadata.as_mut_ptr(),
                 node.otadata.len(),
                 settings.chip_id,
+                settings.revision,
                 settings.efuse,
                 settings.rollback,
                 settings.anti_rollback
@@ -182,15 +189,15 @@ macro_rules! call_node {
     }};
 }
 
-pub fn boot(node: Node, settings: Settings, out: &mut [u32; 4]) -> u32 {
+pub fn boot(node: Node, settings: Settings, out: &mut [u32; 6]) -> u32 {
     call_node!(ota_boot, node, settings, out.as_mut_ptr())
 }
 
-pub fn set_boot(node: Node, settings: Settings, slot: u32, out: &mut [u64; 2]) -> u32 {
+pub fn set_boot(node: Node, settings: Settings, slot: u32, out: &mut [u64; 4]) -> u32 {
     call_node!(ota_set_boot, node, settings, slot, out.as_mut_ptr())
 }
 
-pub fn mark_valid(node: Node, settings: Settings, slot: u32, out: &mut [u64; 3]) -> u32 {
+pub fn mark_valid(node: Node, settings: Settings, slot: u32, out: &mut [u64; 5]) -> u32 {
     call_node!(ota_mark_valid, node, settings, slot, out.as_mut_ptr())
 }
 

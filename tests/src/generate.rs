@@ -23,13 +23,27 @@ pub fn plain_image(chip_id: u16, version: u32, length: usize, digest: bool) -> V
     build_image(chip_id, 0x4008_0000, &[data], digest)
 }
 
+/// The image of the app at a place of a plain node. From one place to the next it is longer, has another entry address, and takes turns
+/// between no digest and a digest.
+fn app_image(chip_id: u16, version: u32, place: usize) -> Vec<u8> {
+    let mut image = plain_image(chip_id, version, 256 + 16 * place, place % 2 == 1);
+    image[4..8].copy_from_slice(&plain_loadable(place).entry.to_le_bytes());
+    image
+}
+
+/// The whole length and the entry address of that image.
+pub fn plain_loadable(place: usize) -> Loadable {
+    let digest = DIGEST_SIZE * (place % 2);
+    Loadable { length: (304 + 16 * place + digest) as u64, entry: 0x4008_0000 + 0x0102_0304 * place as u32 }
+}
+
 /// A node of chip 0.
 pub fn plain_node(slots: &[Option<u32>], factory: Option<u32>) -> (Vec<u32>, Vec<u8>) {
     plain_node_of(0, slots, factory)
 }
 
-/// A list and flash with a slot of 4,096 bytes for each item, and factory where it is given. A slot holds a plain image for
-/// that chip with that version, or erased bytes.
+/// A list and flash with a slot of 4,096 bytes for each item, and after them factory where it is given. A slot holds a plain image for
+/// that chip with that version, or erased bytes; the images differ in length and entry address.
 pub fn plain_node_of(chip_id: u16, slots: &[Option<u32>], factory: Option<u32>) -> (Vec<u32>, Vec<u8>) {
     let apps = slots.iter().zip(16..).map(|(version, subtype)| (subtype, *version));
     let apps: Vec<_> = apps.chain(factory.map(|version| (0, Some(version)))).collect();
@@ -39,7 +53,7 @@ pub fn plain_node_of(chip_id: u16, slots: &[Option<u32>], factory: Option<u32>) 
         let offset = block * BLOCK;
         list.extend([subtype, offset as u32, PAGE as u32]);
         if let Some(version) = version {
-            let image = plain_image(chip_id, version, 256, false);
+            let image = app_image(chip_id, version, block);
             flash[offset..][..image.len()].copy_from_slice(&image);
         }
     }
@@ -287,6 +301,14 @@ pub fn chip_id(rng: &mut Rng) -> u16 {
     match rng.below(4) {
         0 | 1 => 0,
         2 => rng.pick(&[2, 5, 9, 0x0D, 16, 0x0100, 0xFFFF]),
+        _ => rng.word() as u16,
+    }
+}
+
+/// A chip's revision, major × 100 + minor.
+pub fn revision(rng: &mut Rng) -> u16 {
+    match rng.below(2) {
+        0 => rng.pick(&[0, 1, 99, 100, 199, 300, 399, 65_535]),
         _ => rng.word() as u16,
     }
 }
@@ -742,7 +764,7 @@ fn settings(rng: &mut Rng, factory: bool) -> ffi::Settings {
     let rollback = if rng.chance(65) { on(rng) } else { 0 };
     let refused = factory || rollback == 0;
     let anti_rollback = if rng.chance(if refused { 6 } else { 60 }) { on(rng) } else { 0 };
-    ffi::Settings { chip_id: chip_id(rng), efuse: efuse(rng), rollback, anti_rollback }
+    ffi::Settings { chip_id: chip_id(rng), revision: revision(rng), efuse: efuse(rng), rollback, anti_rollback }
 }
 
 /// A register: some of the lowest bits, few bits anywhere or any; now and then with ones in its upper half besides.

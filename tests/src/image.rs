@@ -26,6 +26,19 @@ pub struct Facts {
     pub segments: u32,
 }
 
+/// What a loader needs of an accepted image: its whole length and its entry address.
+#[derive(Clone, Copy, PartialEq, Eq, Debug)]
+pub struct Loadable {
+    pub length: u64,
+    pub entry: u32,
+}
+
+impl Facts {
+    pub fn loadable(&self) -> Loadable {
+        Loadable { length: self.length, entry: self.entry }
+    }
+}
+
 /// Checks an image for a chip. The tests run in the order of their numbers, so the lowest that applies is given.
 pub fn check(image: &[u8], chip_id: u16) -> Result<Facts, ImageRefusal> {
     let test = |right: bool, number: u32, place: usize| {

@@ -1,9 +1,11 @@
 //! The node's settings, and the eFuse version with its raising.
 
-/// Chip id, eFuse register, rollback and anti-rollback.
+/// Chip id, the chip's revision, eFuse register, rollback and anti-rollback.
 #[derive(Clone, Copy, PartialEq, Eq, Debug)]
 pub struct Settings {
     pub chip_id: u16,
+    /// Major × 100 + minor. Nothing reads it yet.
+    pub revision: u16,
     pub efuse: u32,
     pub rollback: bool,
     pub anti_rollback: bool,

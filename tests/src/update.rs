@@ -1,30 +1,36 @@
 //! The other calls: set-boot, mark-valid, mark-invalid, the state query and the next update slot.
 
 use crate::boot::{accept, accept_node, boot, App};
-use crate::image;
+use crate::image::{self, Facts, Loadable};
 use crate::partition::Partitions;
 use crate::record::{Record, State, HIGHEST_SEQUENCE, LABEL_SIZE};
 use crate::refusal::Refusal;
 use crate::sector::{active, readings, rewrite_in};
 use crate::settings::{efuse_raise, Settings};
 
-/// Makes `slot` the one to start: a new record in the sector that isn't active.
-pub fn set_boot(list: &[u32], flash: &[u8], otadata: &mut [u8], settings: &Settings, slot: u32) -> Result<(), Refusal> {
+/// Makes `slot` the one to start: a new record in the sector that isn't active. Gives the slot's image.
+pub fn set_boot(
+    list: &[u32],
+    flash: &[u8],
+    otadata: &mut [u8],
+    settings: &Settings,
+    slot: u32,
+) -> Result<Loadable, Refusal> {
     let partitions = accept(list, flash, otadata, settings)?;
     test_slot(&partitions, slot)?;
-    test_app(&partitions, flash, settings, slot)?;
+    let image = test_app(&partitions, flash, settings, slot)?.loadable();
     let active = active_of(otadata);
     test_not_pending(active, settings)?;
 
     let n = partitions.n();
     let (sequence, number) = match active {
-        Some((_, record)) if record.slot(n) == slot => return Ok(()),
+        Some((_, record)) if record.slot(n) == slot => return Ok(image),
         Some((number, record)) => (next_naming(record.sequence, slot, n)?, 1 - number),
         None => (slot + 1, 0),
     };
     let state = if settings.rollback { State::New } else { State::Undefined };
     rewrite_in(otadata, number, &Record { sequence, label: [0xFF; LABEL_SIZE], state });
-    Ok(())
+    Ok(image)
 }
 
 /// The smallest sequence above `sequence` that names `slot` of n.
@@ -34,22 +40,33 @@ pub fn next_naming(sequence: u32, slot: u32, n: u32) -> Result<u32, Refusal> {
     u32::try_from(next).ok().filter(|s| *s <= HIGHEST_SEQUENCE).ok_or(Refusal::SequenceEnd)
 }
 
-/// Marks the running app's record valid, and gives the register to burn after that.
+/// The reply of mark-valid: the register to burn, and the running app's image.
+#[derive(Clone, Copy, PartialEq, Eq, Debug)]
+pub struct Marked {
+    pub efuse: u32,
+    pub image: Loadable,
+}
+
+/// Marks the running app's record valid; the register is to be burned after that.
 pub fn mark_valid(
     list: &[u32],
     flash: &[u8],
     otadata: &mut [u8],
     settings: &Settings,
     running: u32,
-) -> Result<u32, Refusal> {
+) -> Result<Marked, Refusal> {
     let partitions = accept(list, flash, otadata, settings)?;
     test_slot(&partitions, running)?;
     let (number, record) = test_running(&partitions, otadata, running)?;
-    let version = test_app(&partitions, flash, settings, running)?;
+    let facts = test_app(&partitions, flash, settings, running)?;
     if record.state != State::Valid {
         rewrite_in(otadata, number, &record.in_state(State::Valid));
     }
-    Ok(if settings.anti_rollback { efuse_raise(settings.chip_id, settings.efuse, version) } else { settings.efuse })
+    let mut reply = Marked { efuse: settings.efuse, image: facts.loadable() };
+    if settings.anti_rollback {
+        reply.efuse = efuse_raise(settings.chip_id, settings.efuse, facts.version);
+    }
+    Ok(reply)
 }
 
 /// Marks the running app's record invalid, unless boot would then find nothing.
@@ -124,14 +141,14 @@ fn test_running(partitions: &Partitions, otadata: &[u8], running: u32) -> Result
     active_of(otadata).filter(|(_, record)| record.slot(partitions.n()) == running).ok_or(Refusal::NotNamed)
 }
 
-/// Tests 5 and 6: the app's image, then its version, which is given.
-fn test_app(partitions: &Partitions, flash: &[u8], settings: &Settings, slot: u32) -> Result<u32, Refusal> {
+/// Tests 5 and 6: the app's image, whose facts are given, then its version.
+fn test_app(partitions: &Partitions, flash: &[u8], settings: &Settings, slot: u32) -> Result<Facts, Refusal> {
     let part = partitions.slots[slot as usize].clone();
     let facts = image::check(&flash[part], settings.chip_id).map_err(Refusal::Image)?;
     if settings.too_old(facts.version) {
         return Err(Refusal::TooOld);
     }
-    Ok(facts.version)
+    Ok(facts)
 }
 
 /// Test 11.
@@ -145,11 +162,11 @@ fn test_not_pending(active: Option<(usize, Record)>, settings: &Settings) -> Res
 #[cfg(test)]
 mod tests {
     use super::*;
-    use crate::generate::{plain_node, two_sectors};
+    use crate::generate::{plain_loadable, plain_node, two_sectors};
     use crate::record::make;
     use crate::refusal::ImageRefusal;
 
-    const OFF: Settings = Settings { chip_id: 0, efuse: 0, rollback: false, anti_rollback: false };
+    const OFF: Settings = Settings { chip_id: 0, revision: 301, efuse: 0, rollback: false, anti_rollback: false };
     const ROLLBACK: Settings = Settings { rollback: true, ..OFF };
     const ANTI: Settings = Settings { anti_rollback: true, ..ROLLBACK };
 
@@ -169,12 +186,12 @@ mod tests {
     fn set_boot_writes_the_sector_that_is_not_active() {
         let (list, flash) = plain_node(&[Some(1), Some(2)], None);
         let mut otadata = two_sectors(record(5, State::Valid), record(4, State::Valid));
-        assert_eq!(set_boot(&list, &flash, &mut otadata, &ROLLBACK, 0), Ok(()));
+        assert_eq!(set_boot(&list, &flash, &mut otadata, &ROLLBACK, 0), Ok(plain_loadable(0)));
         assert_eq!(otadata, two_sectors(record(5, State::Valid), record(4, State::Valid)));
-        assert_eq!(set_boot(&list, &flash, &mut otadata, &ROLLBACK, 1), Ok(()));
+        assert_eq!(set_boot(&list, &flash, &mut otadata, &ROLLBACK, 1), Ok(plain_loadable(1)));
         assert_eq!(otadata, two_sectors(record(5, State::Valid), record(6, State::New)));
         let mut otadata = two_sectors(None, record(7, State::Invalid));
-        assert_eq!(set_boot(&list, &flash, &mut otadata, &OFF, 1), Ok(()));
+        assert_eq!(set_boot(&list, &flash, &mut otadata, &OFF, 1), Ok(plain_loadable(1)));
         assert_eq!(otadata, two_sectors(record(2, State::Undefined), record(7, State::Invalid)));
     }
 
@@ -198,12 +215,34 @@ mod tests {
         let mut otadata = before.clone();
         assert_eq!(mark_valid(&list, &flash, &mut otadata, &ANTI, 0), Err(Refusal::NotNamed));
         assert_eq!(otadata, before);
-        assert_eq!(mark_valid(&list, &flash, &mut otadata, &ANTI, 1), Ok(3));
+        let marked = Ok(Marked { efuse: 3, image: plain_loadable(1) });
+        assert_eq!(mark_valid(&list, &flash, &mut otadata, &ANTI, 1), marked);
+        assert_eq!(otadata, two_sectors(record(1, State::Valid), record(2, State::Valid)));
+        assert_eq!(mark_valid(&list, &flash, &mut otadata, &ANTI, 1), marked);
         assert_eq!(otadata, two_sectors(record(1, State::Valid), record(2, State::Valid)));
         assert_eq!(mark_invalid(&list, &flash, &mut otadata, &ANTI, 1), Ok(()));
         assert_eq!(otadata, two_sectors(record(1, State::Valid), record(2, State::Invalid)));
         assert_eq!(mark_invalid(&list, &flash, &mut otadata, &ANTI, 0), Err(Refusal::NoFallback));
         assert_eq!(otadata, two_sectors(record(1, State::Valid), record(2, State::Invalid)));
+    }
+
+    /// Set-boot that writes and of a slot that is named already; mark-valid that writes and of a record that was valid.
+    #[test]
+    fn each_reply_gives_the_image() {
+        let (list, flash) = plain_node(&[Some(1), Some(2), Some(3)], None);
+        let images = [(304, 0x4008_0000), (352, 0x410A_0304), (336, 0x420C_0608)];
+        for ((length, entry), slot) in images.into_iter().zip(0..) {
+            let image = Loadable { length, entry };
+            for active in 1..=3 {
+                let mut otadata = two_sectors(None, record(active, State::Valid));
+                assert_eq!(set_boot(&list, &flash, &mut otadata, &ROLLBACK, slot), Ok(image));
+            }
+            for state in [State::Pending, State::Valid] {
+                let mut otadata = two_sectors(record(slot + 1, state), None);
+                let marked = Marked { efuse: 0, image };
+                assert_eq!(mark_valid(&list, &flash, &mut otadata, &ROLLBACK, slot), Ok(marked));
+            }
+        }
     }
 
     #[test]

@@ -17,7 +17,8 @@ UNIT = 65536
 SIZE = Cases.size
 
 Settings = collections.namedtuple("Settings", "rollback anti efuse chip")
-Reply = collections.namedtuple("Reply", "number app sector register")
+Reply = collections.namedtuple("Reply", "number app sector register length entry")
+Image = collections.namedtuple("Image", "length entry version segments")
 
 
 # ---- the apps in the flash
@@ -30,18 +31,22 @@ class Flash:
         self.checked = {}
         self.met = set()
 
-    def version(self, place, chip):
-        """The secure version of the image in a part of the flash, or None where it is refused."""
+    def image(self, place, chip):
+        """The image in a part of the flash, or None where it is refused."""
         if (place, chip) not in self.checked:
             self.checked[place, chip] = check_image(bytes(self.bytes[slice(*place)]), chip)
         answer = self.checked[place, chip]
         self.met.add(answer[0])
-        return answer[3] if answer[0] == 0 else None
+        return Image(*answer[1:]) if answer[0] == 0 else None
 
 
 def passes(places, flash, settings, app):
-    found = flash.version(places[app], settings.chip)
-    return found is not None and (not settings.anti or found >= version(settings.efuse, settings.chip))
+    found = flash.image(places[app], settings.chip)
+    return found is not None and (not settings.anti or found.version >= version(settings.efuse, settings.chip))
+
+
+def refused(number, settings):
+    return Reply(number, None, None, settings.efuse, 0, 0)
 
 
 def restated(sector, state):
@@ -56,11 +61,11 @@ def boot(words, length, flash, otadata, settings):
     """The reply, and otadata as it is left."""
     places = listing(words, length)
     if places is None:
-        return Reply(1, None, None, settings.efuse), otadata
+        return refused(1, settings), otadata
     if len(otadata) != 2 * SECTOR:
-        return Reply(2, None, None, settings.efuse), otadata
+        return refused(2, settings), otadata
     if settings.anti and (not settings.rollback or FACTORY in places):
-        return Reply(3, None, None, settings.efuse), otadata
+        return refused(3, settings), otadata
     slots = slots_in(places)
     sectors = [otadata[:SECTOR], otadata[SECTOR:]]
     reads = [reading(sector[:32]) for sector in sectors]
@@ -81,8 +86,9 @@ def boot(words, length, flash, otadata, settings):
     searched = [(slot, None) for slot in range(slots) if slot not in barred]
     chosen = next((way for way in ways + searched if passes(places, flash, settings, way[0])), None)
     if chosen is None:
-        return Reply(10, None, None, settings.efuse), b"".join(sectors)
+        return refused(10, settings), b"".join(sectors)
     app, through = chosen
+    found = flash.image(places[app], settings.chip)
 
     # step 3
     if settings.rollback and through is not None and reads[through].state == NEW:
@@ -91,8 +97,8 @@ def boot(words, length, flash, otadata, settings):
     # step 4
     register = settings.efuse
     if settings.anti and chosen in searched and reads == [None, None]:
-        register = raised(register, flash.version(places[app], settings.chip), settings.chip)
-    return Reply(0, app, through, register), b"".join(sectors)
+        register = raised(register, found.version, settings.chip)
+    return Reply(0, app, through, register, found.length, found.entry), b"".join(sectors)
 
 
 # ---- demand 3, as it is claimed
@@ -123,7 +129,9 @@ def next_boot(p, read, untouched, places, flash, settings):
         both[p] = read._replace(state=ABORTED)
     first = usable(both[p]) and (both[p].sequence, 1 - p) > (untouched.sequence, p)
     start = p if first and passes(places, flash, settings, named(both[p].sequence, slots)) else 1 - p
-    reply = Reply(0, named(both[start].sequence, slots), start, settings.efuse)
+    app = named(both[start].sequence, slots)
+    found = flash.image(places[app], settings.chip)
+    reply = Reply(0, app, start, settings.efuse, found.length, found.entry)
     if settings.rollback and both[start].state == NEW:
         both[start] = both[start]._replace(state=PENDING)
     return reply, (both[0], both[1])
@@ -133,7 +141,7 @@ def next_boot(p, read, untouched, places, flash, settings):
 
 def numbers(reply):
     kind = 0 if reply.app is None else 1 if reply.app == FACTORY else 2
-    return (reply.number, kind, reply.app if kind == 2 else 0, 2 if reply.sector is None else reply.sector, reply.register)
+    return (reply.number, kind, reply.app if kind == 2 else 0, 2 if reply.sector is None else reply.sector, *reply[3:])
 
 
 def told(read, why):
@@ -157,8 +165,11 @@ class Boots:
         self.boots = self.rewrites = 0
 
     def add(self, name, settings, b, laying):
+        """Each case has another revision, by turns. No rule reads it."""
         flags = laying.get("flags", 0) + settings.rollback + 2 * settings.anti
-        self.cases.add(name, settings.efuse, b, self.length, settings.chip, flags, laying.get("body", b""))
+        revision = REVISIONS[(self.boots + self.rewrites) % len(REVISIONS)]
+        body = laying.get("body", b"").ljust(112, b"\0") + revision.to_bytes(2, "little")
+        self.cases.add(name, settings.efuse, b, self.length, settings.chip, flags, body)
 
     def clear(self):
         self.cases.fill(0, SIZE, (0, 0))
@@ -200,10 +211,11 @@ class Boots:
         """What holds of every boot: none is started through an invalid or aborted record, nor below the eFuse version."""
         self.met[reply.number] += 1
         if reply.number != 0:
-            assert reply[1:] == (None, None, settings.efuse)
+            assert reply[1:] == (None, None, settings.efuse, 0, 0)
             return
         places = self.places()
         assert passes(places, self.flash, settings, reply.app)
+        assert (reply.length, reply.entry) == MADE[places[reply.app][0] // UNIT]
         if reply.sector is not None:
             read = reading(self.cases.sector(reply.sector, 32))
             assert usable(read) and named(read.sequence, slots_in(places)) == reply.app
@@ -256,54 +268,67 @@ class Boots:
 
 CHIP = 0x0302
 OTHER_CHIP = 0x0203
+# major x 100 + minor, and among them the numbers of the chip ids
+REVISIONS = (0, 1, 99, 100, 199, 300, 399, CHIP, OTHER_CHIP, 65534, 65535)
 
 
-def image(secure=3, chip=CHIP, size=256, flag=0, puts=()):
+def image(size, flag, entry, secure=3, chip=CHIP, wrong=0, puts=()):
     """An image with one segment of zeros but for its descriptor. The puts are laid over it last."""
     e = 32 + size
     padded = e - e % 16 + 16
     made = bytearray(padded + 32 * flag)
-    struct.pack_into("<BB2xI", made, 0, 0xE9, 1, 0x40080400)
+    struct.pack_into("<BB2xI", made, 0, 0xE9, 1, entry)
     struct.pack_into("<H", made, 12, chip)
     made[23] = flag
     struct.pack_into("<II", made, 24, 0x3F400020, size)
     struct.pack_into("<II", made, 32, 0xABCD5432, secure)
-    made[padded - 1] = checksum([made[32:e]])
+    made[padded - 1] = checksum([made[32:e]]) ^ wrong
     for at, data in puts:
         made[at:at + len(data)] = data
     return bytes(made)
 
 
 GOOD = list("abcdefghijklmnopq")  # sixteen slots and factory
-IMAGES = {name: image() for name in GOOD}
-IMAGES |= {f"v{secure}": image(secure) for secure in (0, 1, 2, 4, 5, 16)}
 AROUND = (15, 16, 17, 32, 33)  # the versions on chips 0, 5 and 16
-IMAGES |= {f"v{secure} of {chip}": image(secure, chip) for chip in (0, 5, 16) for secure in AROUND}
-IMAGES |= {
-    "other chip": image(chip=OTHER_CHIP),
-    "whole": image(size=4048),  # 4,096 bytes, and 16 or 32 bytes more
-    "padding": image(size=4064),
-    "digest": image(size=4048, flag=1),
-    "flagged": image(flag=1),
+TRAITS = {name: {} for name in GOOD}
+TRAITS |= {f"v{secure}": {"secure": secure} for secure in (0, 1, 2, 4, 5, 16)}
+TRAITS |= {f"v{secure} of {chip}": {"secure": secure, "chip": chip} for chip in (0, 5, 16) for secure in AROUND}
+TRAITS |= {
+    "other chip": {"chip": OTHER_CHIP},
+    "whole": {"size": 4048, "flag": 0},  # 4,096 bytes, and 16 or 32 bytes more
+    "padding": {"size": 4064, "flag": 0},
+    "flagged": {"flag": 1},
+    "digest": {"size": 4048, "flag": 1},
 }
 BAD = {
-    "magic": (21, image(puts=[(0, b"\xE8")])),
-    "no magic": (21, image(puts=[(0, b"\x00")])),
-    "no segment": (22, image(puts=[(1, b"\x00")])),
-    "segments": (22, image(puts=[(1, b"\x11")])),
-    "chip": (23, image(chip=CHIP + 1)),
-    "flag": (24, image(puts=[(23, b"\x02")])),
-    "odd length": (25, image(puts=[(28, b"\x02")])),
-    "length": (25, image(puts=[(31, b"\x80")])),
-    "short": (26, image(size=252)),
-    "descriptor": (26, image(puts=[(35, b"\xAC")])),
-    "checksum": (28, image(puts=[(303, b"\x00")])),
-    "v17": (29, image(17)),
-    "v32": (29, image(32)),
-    "v33": (29, image(33)),
-    "v64": (29, image(64)),
+    "magic": (21, {"puts": [(0, b"\xE8")]}),
+    "no magic": (21, {"puts": [(0, b"\x00")]}),
+    "no segment": (22, {"puts": [(1, b"\x00")]}),
+    "segments": (22, {"puts": [(1, b"\x11")]}),
+    "chip": (23, {"chip": CHIP + 1}),
+    "flag": (24, {"puts": [(23, b"\x02")]}),
+    "odd length": (25, {"puts": [(28, b"\x02")]}),
+    "length": (25, {"puts": [(31, b"\x80")]}),
+    "short": (26, {"size": 252}),
+    "descriptor": (26, {"puts": [(35, b"\xAC")]}),
+    "checksum": (28, {"wrong": 0xEC}),
+    "v17": (29, {"secure": 17}),
+    "v32": (29, {"secure": 32}),
+    "v33": (29, {"secure": 33}),
+    "v64": (29, {"secure": 64}),
 }
-IMAGES |= {name: made for name, (_, made) in BAD.items()}
+TRAITS |= {name: traits for name, (_, traits) in BAD.items()}
+
+
+def numbered(k, traits):
+    """The image of unit k. Each has a length and an entry address of its own; every other one has a digest, unless its traits decide."""
+    return image(**{"size": 256 + 16 * k, "flag": k % 2, "entry": (0x40080400 + 0x01020304 * k) % (1 << 32), **traits})
+
+
+IMAGES = {name: numbered(k, traits) for k, (name, traits) in enumerate(TRAITS.items())}
+# by unit, the whole length and the entry address
+MADE = [(len(made), int.from_bytes(made[4:8], "little")) for made in IMAGES.values()]
+assert len(MADE) == len({length for length, _ in MADE}) == len({entry for _, entry in MADE})
 UNITS = {name: unit for unit, name in enumerate(IMAGES)}
 EMPTY = SIZE // UNIT - 1
 assert len(UNITS) <= EMPTY  # the last unit stays zero
@@ -665,8 +690,8 @@ def add_refusals(cases):
 def add_images(cases):
     """An image that is refused, for each reason, does not pass; its entry's part alone is checked, for the chip that is set."""
     valid = record(1, VALID), record(2, VALID)
-    for name, (number, made) in BAD.items():
-        assert check_image(made + bytes(SECTOR - len(made)), CHIP)[0] == number
+    for name, (number, _) in BAD.items():
+        assert check_image(IMAGES[name].ljust(SECTOR, b"\0"), CHIP)[0] == number
         cases.list(listed(["a", name]))
         cases.boot(ROLLBACK, valid, (0, 0, 0, 7), writes=())
         cases.list(listed([name, "magic" if name != "magic" else "v33"], "empty"))

@@ -11,6 +11,7 @@ A case is 256 bytes; numbers are little-endian:
    16  record of sector 0, 48  record of sector 1, 80  the record lent; or the bytes that are put into the flash; or up to 60
        sequences; or the list's first 60 words: after them the gate's program has zeros, and the other repeats words 57 to 59
   124  start and step of sector 0's or the flash's filler, 126  those of sector 1's
+  128  half word: the chip's revision, of boot and cuts
 Byte i of what is filled is the front's, and after it the start, with step 1 plus 7 i + 13 (i / 256) + 29 (i / 65,536), mod 256. With step 2,
 in the gate's program alone, it is byte i % 4 of the number i - i % 4: the word at each multiple of 4 is its place.
 Sector 1 is laid up to the buffer's end. The kinds:
@@ -31,7 +32,7 @@ Sector 1 is laid up to the buffer's end. The kinds:
    12 stores: sector, its length a, the record's length b % 256, b / 256 stores from c on
    13 rewrite: the same but c                   number, what the sector reads as, sum of the buffer
    14 boot: chip, register a, length b of otadata, length c of the flash
-                                                number, the four numbers of the reply, sum of the buffer
+                                                number, the six numbers of the reply, sum of the buffer
    15 cuts: chip, register a, sector b, length c of the flash
                                                 for a run of cuts: its first and last, what the rewritten sector reads as, number and reply
                                                 of the next boot, and what the two sectors then read as

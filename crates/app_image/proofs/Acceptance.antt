@@ -1,7 +1,7 @@
 -- What an accepted image is.
 -- Assumes nothing.
 use Prim.Native.Nat.{ℕ, _≤_}
-use mathlib.Core.Path.{_≡_, refl, ap}
+use mathlib.Core.Path.{_≡_, refl, ap, subst}
 use mathlib.Core.Bool.{Bool, true, false, not}
 use mathlib.Core.List.{List}
 use mathlib.Core.Logic.{⊎-elim}
@@ -73,3 +73,9 @@ is-accepted s chip facts e =
       fits = ltb-false _ _ (whole .0);
       are = let same : Accepted (factsOf s (stop segs)) ≡ Accepted facts = end .1 in cc;
     }
+
+-- it is as long as its bytes at most
+pub within : (s : List ℕ) (chip : ChipId) (facts : Facts) → check s chip .reply ≡ Accepted facts → facts .length ≤ length s
+within s chip facts e =
+    let a = is-accepted s chip facts e in
+    subst (λ (f : Facts). f .length ≤ length s) (a .are) (a .fits)

@@ -14,17 +14,19 @@ use Rattle.sectors.specs.declared.Holder.the-variants.{Sector}
 use Rattle.otadata.specs.Records.{usable, noReading}
 use Rattle.otadata.proofs.Verdicts.{not-good-has, by-verdict}
 use Rattle.sectors.specs.Sectors.{higherOf, active}
+use Rattle.partitions.specs.declared.App.{App}
 use Rattle.partitions.specs.declared.App.the-variants.{Factory as FactoryApp, OtaSlot}
 use Rattle.partitions.specs.PartitionList.{slotCount, factorySubtype, timesListed}
 use Rattle.app_image.specs.declared.Facts.{Facts}
 use Rattle.app_image.specs.declared.Checked.{Checked}
 use Rattle.app_image.specs.declared.Checked.the-variants.{Refused, Accepted}
+use Rattle.app_image.specs.Check.{check}
 use Rattle.boot_choice.specs.declared.Settings.{Settings}
 use Rattle.boot_choice.specs.declared.Passing.{Passing}
 use Rattle.boot_choice.specs.declared.Passing.the-variants.{No, Yes}
 use Rattle.boot_choice.specs.declared.Choice.{Choice}
 use Rattle.boot_choice.specs.declared.Choice.the-variants.{Nothing, Through, Factory, Found}
-use Rattle.boot_choice.specs.Choice.{tooOld, held, passing, orElse, ifPasses, namedSlot, throughVerdict, throughRecord, throughHolder, throughRecords}
+use Rattle.boot_choice.specs.Choice.{image, tooOld, held, passing, orElse, ifPasses, namedSlot, throughVerdict, throughRecord, throughHolder, throughRecords}
 use Rattle.boot_choice.specs.Choice.{factory, barred, candidate, searchFrom, choice}
 
 -- ---- an app that passes
@@ -39,6 +41,12 @@ held-by settings (Accepted f) facts e = by (tooOld settings (f .version)) refl e
         → (Accepted f ≡ Accepted facts) × (tooOld settings (facts .version) ≡ false)
     by true t h = absurd (let z : _≡_ {A = ℕ} 0 1 = cc in omega arith)
     by false t h = let same : f ≡ facts = cc in (ap Accepted same, rw same at t)
+
+-- its image is accepted with these facts
+pub passing-accepted : (list flash : List ℕ) (settings : Settings) (app : App) (facts : Facts) → passing list flash settings app ≡ Yes facts
+    → check (image list flash app) (settings .chip) .reply ≡ Accepted facts
+unfolding passing
+passing-accepted list flash settings app facts e = held-by settings (check (image list flash app) (settings .chip) .reply) facts e .0
 
 -- ---- a choice
 

@@ -78,7 +78,7 @@ module _ (list flash : List ℕ) (settings : Settings) (facts : Facts) (n : slot
 
 -- a slot that it found raises the register to its app's version, 4, while neither sector holds a good record
 abbrev protected : ℕ → ℕ → Settings
-protected chip efuse = record { chip = record { 0 = chip }; efuse = efuse; rollback = true; «anti_rollback» = true }
+protected chip efuse = record { chip = record { 0 = chip }; revision = record { 0 = 0 }; efuse = efuse; rollback = true; «anti_rollback» = true }
 
 module _ (facts : Facts) (v : facts .version .0 ≡ 4) where
   pub raises : registerAfter (protected 0 0x0B) (noReading ∷ noReading ∷ []) (Found slot1 facts) ≡ 0x0F

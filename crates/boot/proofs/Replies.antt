@@ -1,7 +1,7 @@
 -- The steps of boot put together, and its reply, as the code makes them.
 -- Assumes nothing.
 use Prim.Native.Nat.{ℕ, _<_}
-use mathlib.Core.Path.{_≡_, _∙_, refl, sym, ap, ap₂}
+use mathlib.Core.Path.{_≡_, _∙_, refl, sym, ap, ap₂, subst}
 use mathlib.Core.Bool.{Bool, true, false, not}
 use mathlib.Core.List.{List}
 use native.Mathlib.Omega.{arith}
@@ -18,15 +18,18 @@ use Rattle.partitions.specs.declared.Checked.{Checked}
 use Rattle.partitions.specs.declared.Checked.the-variants.{Refused as NotAccepted, Accepted}
 use Rattle.app_image.specs.declared.Facts.{Facts}
 use Rattle.boot_choice.specs.declared.Settings.{Settings}
+use Rattle.boot_choice.specs.declared.Passing.the-variants.{Yes}
 use Rattle.boot_choice.specs.declared.Choice.{Choice}
 use Rattle.boot_choice.specs.declared.Choice.the-variants.{Nothing, Through, Factory, Found}
+use Rattle.boot.specs.declared.Refusal.{Refusal}
+use Rattle.boot.specs.declared.Start.{Start}
 use Rattle.boot.specs.declared.Reply.{Reply}
 use Rattle.boot.specs.declared.Reply.the-variants.{Refused, Starts}
 use Rattle.boot_choice.specs.NodeRegister.{raisedTo}
 use Rattle.boot_choice.specs.Acceptance.{accepted}
-use Rattle.boot_choice.specs.Choice.{choice}
+use Rattle.boot_choice.specs.Choice.{passing, choice}
 use Rattle.otadata.specs.Records.{goodVerdict}
-use Rattle.boot.specs.Boot.{view, marked, usedSector, awaiting, anyGood, registerAfter, replyTo, fromMarks, byTests, boot, passedTests, Accepts}
+use Rattle.boot.specs.Boot.{view, marked, usedSector, awaiting, anyGood, registerAfter, startOf, replyTo, fromMarks, byTests, boot, passedTests, Accepts}
 use Rattle.otadata.proofs.Booleans.{true-is-not-false}
 use Rattle.boot.proofs.ChoiceLaws.{Sound, nothing, through, by-factory, found, choice-sound}
 use Rattle.boot.proofs.TestLaws.{tests-decide, where-accepted}
@@ -69,18 +72,44 @@ module _ (settings : Settings) (rs : List Reading) (c : Choice) where
   nothing-starts e = simp e
 
   pub record-starts : (k : ℕ) (slot : Slot) (facts : Facts) → c ≡ Through k slot facts
-      → viewed view (Starts (record { app = OtaSlot slot; through = Sector k; register = settings .efuse })) ≡ replyTo settings rs c
+      → (s : Start) → s ≡ startOf (OtaSlot slot) (Sector k) (settings .efuse) facts → viewed view (Starts s) ≡ replyTo settings rs c
   unfolding registerAfter
-  record-starts k slot facts e = simp e
+  record-starts k slot facts e s is = simp (e, is)
 
   pub factory-starts : (facts : Facts) → c ≡ Factory facts
-      → viewed view (Starts (record { app = FactoryApp; through = None; register = settings .efuse })) ≡ replyTo settings rs c
+      → (s : Start) → s ≡ startOf FactoryApp None (settings .efuse) facts → viewed view (Starts s) ≡ replyTo settings rs c
   unfolding registerAfter
-  factory-starts facts e = simp e
+  factory-starts facts e s is = simp (e, is)
 
   pub found-starts : (slot : Slot) (facts : Facts) → c ≡ Found slot facts → (register : ℕ) → register ≡ registerAfter settings rs (Found slot facts)
-      → viewed view (Starts (record { app = OtaSlot slot; through = None; register = register })) ≡ replyTo settings rs c
-  found-starts slot facts e register r = simp (e, r)
+      → (s : Start) → s ≡ startOf (OtaSlot slot) None register facts → viewed view (Starts s) ≡ replyTo settings rs c
+  found-starts slot facts e register r s is = simp (e, r, is)
+
+-- ---- a start
+
+pub same-start : {s t : Start} → Starts s ≡ Starts t → s ≡ t
+same-start e = cc
+
+pub no-start : {r : Refusal} {s : Start} → Refused r ≡ Starts s → ⊥
+no-start e = let z : _≡_ {A = ℕ} 0 1 = cc in omega arith
+
+-- its app passes, and its length and its entry address are those of the image
+pub record PassingStart (list flash : List ℕ) (settings : Settings) (start : Start) : Type 0 where
+  pub facts : Facts
+  pub passes : passing list flash settings (start .app) ≡ Yes facts
+  pub same-length : start .length ≡ facts .length
+  pub same-entry : start .entry ≡ facts .entry
+
+module _ (list flash : List ℕ) (settings : Settings) (rs : List Reading) where
+  starts-with : (s start : Start) → Starts s ≡ Starts start → PassingStart list flash settings s → PassingStart list flash settings start
+  starts-with s start e of = subst (PassingStart list flash settings) (same-start e) of
+
+  -- so is the start of every choice
+  pub passing-start : {c : Choice} → Sound list flash settings rs c → (start : Start) → replyTo settings rs c .reply ≡ Starts start → PassingStart list flash settings start
+  passing-start nothing start e = absurd (no-start e)
+  passing-start (through l u p) start e = starts-with _ start e (record { facts = _; passes = p; same-length = refl; same-entry = refl })
+  passing-start (by-factory p) start e = starts-with _ start e (record { facts = _; passes = p; same-length = refl; same-entry = refl })
+  passing-start (found p) start e = starts-with _ start e (record { facts = _; passes = p; same-length = refl; same-entry = refl })
 
 -- ---- the steps
 

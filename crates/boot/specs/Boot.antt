@@ -15,9 +15,11 @@ use Rattle.partitions.specs.declared.App.{App}
 use Rattle.partitions.specs.declared.App.the-variants.{Factory as FactoryApp, OtaSlot}
 use Rattle.partitions.specs.declared.Checked.{Checked}
 use Rattle.partitions.specs.declared.Checked.the-variants.{Refused as NotAccepted, Accepted}
+use Rattle.app_image.specs.declared.Facts.{Facts}
 use Rattle.boot_choice.specs.declared.Settings.{Settings}
 use Rattle.boot_choice.specs.declared.Choice.{Choice}
 use Rattle.boot_choice.specs.declared.Choice.the-variants.{Nothing, Through, Factory, Found}
+use Rattle.boot.specs.declared.Start.{Start}
 use Rattle.boot.specs.declared.Reply.{Reply}
 use Rattle.boot.specs.declared.Reply.the-variants.{Refused, Starts}
 use Rattle.boot_choice.specs.NodeRegister.{raisedTo}
@@ -36,20 +38,23 @@ abbrev pub sectorValue : Holder → ℕ
 sectorValue None = 2
 sectorValue (Sector k) = k
 
--- the view of a reply: factory or slot (0 where refused), the slot, the sector used or none, and the register
+-- factory or slot, the slot, the sector used or none, the register, and the length and the entry address of the image
+abbrev pub startValues : Start → List ℕ
+startValues start = appValues (start .app) ++ (sectorValue (start .through) ∷ start .register ∷ start .length ∷ start .entry ∷ [])
+
+-- the view of a reply: the values of a start; of a refusal the register alone, no app and no sector
 abbrev pub view : Reply → Answer
-view (Refused refusal) = record { number = refusal .number; values = 0 ∷ 0 ∷ 2 ∷ refusal .register ∷ [] }
-view (Starts start) =
-    record { number = 0; values = appValues (start .app) ++ (sectorValue (start .through) ∷ start .register ∷ []) }
+view (Refused refusal) = record { number = refusal .number; values = 0 ∷ 0 ∷ 2 ∷ refusal .register ∷ 0 ∷ 0 ∷ [] }
+view (Starts start) = record { number = 0; values = startValues start }
 
 -- what a boot comes to: its reply, and the otadata that it leaves
 abbrev pub Outcome : Type 0
 Outcome = Answers·Outcome Reply
 
--- a refusal names no app, no slot and no sector, and returns the register as given
+-- a refusal names no app, no slot and no sector, returns the register as given, and has zero for length and entry
 abbrev pub refused : Settings → ℕ → Answered Reply
 refused settings number =
-    answers number (0 ∷ 0 ∷ 2 ∷ settings .efuse ∷ []) (Refused (record { number = number; register = settings .efuse }))
+    answers number (0 ∷ 0 ∷ 2 ∷ settings .efuse ∷ 0 ∷ 0 ∷ []) (Refused (record { number = number; register = settings .efuse }))
 
 -- ---- step 1
 
@@ -93,18 +98,24 @@ registerAfter settings rs (Found slot facts) =
 
 -- ---- boot
 
--- the start of an app, by that choice of it: 0 with those values and the register
-abbrev pub starts : Settings → List Reading → Choice → App → List ℕ → Answered Reply
-starts settings rs made app values =
+-- the start of an app with these facts of its image
+abbrev pub startOf : App → Holder → ℕ → Facts → Start
+startOf app through register facts =
+    record { app = app; through = through; register = register; length = facts .length; entry = facts .entry }
+
+-- its reply, by that choice of it: 0 with those values, the register, and the length and the entry address of the image
+abbrev pub starts : Settings → List Reading → Choice → App → Facts → List ℕ → Answered Reply
+starts settings rs made app facts values =
     let register = registerAfter settings rs made in
-    answers 0 (values ++ (register ∷ [])) (Starts (record { app = app; through = usedSector made; register = register }))
+    answers 0 (values ++ (register ∷ facts .length ∷ facts .entry ∷ []))
+    (Starts (startOf app (usedSector made) register facts))
 
 -- the reply to a choice: 1 for factory, 2 for a slot, then the slot, and the sector, 2 for none; nothing bootable is refused with 10
 abbrev pub replyTo : Settings → List Reading → Choice → Answered Reply
 replyTo settings rs Nothing = refused settings 10
-replyTo settings rs (Through k slot facts) = starts settings rs (Through k slot facts) (OtaSlot slot) (2 ∷ slot .0 ∷ k ∷ [])
-replyTo settings rs (Factory facts) = starts settings rs (Factory facts) FactoryApp (1 ∷ 0 ∷ 2 ∷ [])
-replyTo settings rs (Found slot facts) = starts settings rs (Found slot facts) (OtaSlot slot) (2 ∷ slot .0 ∷ 2 ∷ [])
+replyTo settings rs (Through k slot facts) = starts settings rs (Through k slot facts) (OtaSlot slot) facts (2 ∷ slot .0 ∷ k ∷ [])
+replyTo settings rs (Factory facts) = starts settings rs (Factory facts) FactoryApp facts (1 ∷ 0 ∷ 2 ∷ [])
+replyTo settings rs (Found slot facts) = starts settings rs (Found slot facts) (OtaSlot slot) facts (2 ∷ slot .0 ∷ 2 ∷ [])
 
 -- steps 2 to 4, on the sectors as step 1 left them
 unfoldable pub fromMarks : List ℕ → List ℕ → Settings → List ℕ → Outcome

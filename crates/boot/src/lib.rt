@@ -15,11 +15,14 @@ pub struct Refusal {
     pub register: u32,
 }
 
-// A start: the app, the sector whose record it came through, and the register to burn.
+// A start: the app, the sector whose record it came through, the register to burn, and the whole length and the entry address of
+// the app's image, so that a loader need not read them again.
 pub struct Start {
     pub app: App,
     pub through: Holder,
     pub register: u32,
+    pub length: usize,
+    pub entry: u32,
 }
 
 // The reply of boot.

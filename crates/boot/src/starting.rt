@@ -4,7 +4,7 @@ ghost use lib.ListN.{length};
 ghost use Rattle.otadata.specs.Answers.{viewed, outcome};
 ghost use Rattle.otadata.specs.Records.{goodVerdict};
 ghost use Rattle.boot_choice.specs.declared.Choice.the-variants.{Found};
-ghost use Rattle.boot.specs.Boot.{view, marked, usedSector, anyGood, registerAfter, replyTo, fromMarks, boot as Boot·boot};
+ghost use Rattle.boot.specs.Boot.{view, marked, usedSector, anyGood, registerAfter, startOf, replyTo, fromMarks, boot as Boot·boot};
 use crate::NOTHING_BOOTABLE;
 use crate::Refusal;
 use crate::Reply;
@@ -70,21 +70,37 @@ fn reply_to(settings: Settings, readings: [Reading; 2], choice: Choice) -> Reply
             number: NOTHING_BOOTABLE,
             register: settings.efuse,
         }),
-        Choice::Through(k, slot, _) => Reply::Starts(Start {
-            app: App::OtaSlot(slot),
-            through: Holder::Sector(k),
-            register: settings.efuse,
-        }),
-        Choice::Factory(_) => Reply::Starts(Start {
-            app: App::Factory,
-            through: Holder::None,
-            register: settings.efuse,
-        }),
-        Choice::Found(slot, facts) => Reply::Starts(Start {
-            app: App::OtaSlot(slot),
-            through: Holder::None,
-            register: register_found(settings, readings, slot, facts),
-        }),
+        Choice::Through(k, slot, facts) => Reply::Starts(start_of(
+            App::OtaSlot(slot),
+            Holder::Sector(k),
+            settings.efuse,
+            facts,
+        )),
+        Choice::Factory(facts) => Reply::Starts(start_of(
+            App::Factory,
+            Holder::None,
+            settings.efuse,
+            facts,
+        )),
+        Choice::Found(slot, facts) => Reply::Starts(start_of(
+            App::OtaSlot(slot),
+            Holder::None,
+            register_found(settings, readings, slot, facts),
+            facts,
+        )),
+    }
+}
+
+// The start of an app with these facts of its image.
+fn start_of(app: App, through: Holder, register: u32, facts: Facts) -> Start
+    ensures { λ r. ⌜ r ≡ startOf app through register facts ⌝ }
+{
+    Start {
+        app,
+        through,
+        register,
+        length: facts.length,
+        entry: facts.entry,
     }
 }
 

@@ -29,7 +29,7 @@ exampleFlash = exampleSlot ++ filled 61440 0 ++ exampleSlot
 
 -- both protections are on; the eFuse version is 1, as that of the image
 abbrev pub exampleSettings : Settings
-exampleSettings = record { chip = record { 0 = 0 }; efuse = 1; rollback = true; «anti_rollback» = true }
+exampleSettings = record { chip = record { 0 = 0 }; revision = record { 0 = 0 }; efuse = 1; rollback = true; «anti_rollback» = true }
 
 -- tests 1 to 3 pass, each slot passes, and factory, which is not listed, doesn't
 pub record ExampleNode : Type 0 where

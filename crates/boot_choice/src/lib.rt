@@ -18,9 +18,13 @@ pub const OTADATA_SIZE: usize = 8192;
 // The reply number of document 01 that this layer gives, besides those of the layers below.
 pub const WRONG_SETTINGS: u32 = 3;
 
-// What is set on a node: the chip id, the eFuse register, and which of the two protections are on.
+// A chip's revision: major × 100 + minor.
+pub struct Revision(pub u16);
+
+// What is set on a node: the chip id, the chip's revision, the eFuse register, and which of the two protections are on.
 pub struct Settings {
     pub chip: ChipId,
+    pub revision: Revision,
     pub efuse: u32,
     pub rollback: bool,
     pub anti_rollback: bool,

@@ -29,10 +29,11 @@ use Rattle.boot.specs.declared.Refusal.{Refusal}
 use Rattle.boot.specs.declared.Reply.the-variants.{Refused, Starts}
 use Rattle.boot_choice.specs.Choice.{image, passing, choice}
 use Rattle.boot.specs.Boot.{view, Outcome, marked, usedSector, awaiting, replyTo, fromMarks, byTests, refused, boot, passedTests, Accepts}
-use Rattle.boot_laws.specs.Laws.{UsableAt, ThroughUsable, NotBelow, StartsNotBelow, Never, NeverLaw, ViewLaw, AcceptanceLaw, RefusalKeeps, RefusalLaw, Change, OtherState, OnlyStates, StateLaw}
-use Rattle.boot.proofs.ChoiceLaws.{held-by, Sound, nothing, through, by-factory, found, choice-sound}
+use Rattle.boot_laws.specs.Laws.{UsableAt, ThroughUsable, NotBelow, StartsNotBelow, Never, NeverLaw, OfImage, ImageLaw, ViewLaw, AcceptanceLaw, RefusalKeeps, RefusalLaw, Change, OtherState, OnlyStates, StateLaw}
+use Rattle.app_image.proofs.Acceptance.{within}
+use Rattle.boot.proofs.ChoiceLaws.{held-by, passing-accepted, Sound, nothing, through, by-factory, found, choice-sound}
 use Rattle.boot_laws.proofs.Changes.{Restates, KeptOr, marks, no-marks, awaits, awaiting-size, no-awaiting}
-use Rattle.boot.proofs.Replies.{afterMarks, replies}
+use Rattle.boot.proofs.Replies.{same-start, no-start, passing-start, afterMarks, replies}
 use Rattle.boot.proofs.TestLaws.{OneToThree, Tested, fails, passes, tests-decide}
 use Rattle.boot.proofs.Marking.{marked-size}
 use Rattle.sectors.proofs.TwoSectors.{readings-at}
@@ -52,14 +53,8 @@ not-below list flash settings app facts e =
 
 -- ---- replies
 
-pub same-start : {s t : Start} → Starts s ≡ Starts t → s ≡ t
-same-start e = cc
-
 same-refusal : {r s : Refusal} → Refused r ≡ Refused s → r ≡ s
 same-refusal e = cc
-
-no-start : {r : Refusal} {s : Start} → Refused r ≡ Starts s → ⊥
-no-start e = let z : _≡_ {A = ℕ} 0 1 = cc in omega arith
 
 pub same-sector : {j k : ℕ} → Sector j ≡ Sector k → j ≡ k
 same-sector e = cc
@@ -101,11 +96,6 @@ usable-after : (settings : Settings) (s t : List ℕ) → KeptOr settings New Pe
 usable-after settings s t (inl same) u = rw same u
 usable-after settings s t (inr r) u = ap usableVerdict (r .is)
 
--- the app of a start passes
-begins : (list flash : List ℕ) (settings : Settings) {facts : Facts} (s start : Start)
-    → Starts s ≡ Starts start → passing list flash settings (s .app) ≡ Yes facts → NotBelow list flash settings (start .app)
-begins list flash settings {facts} s start e p = rw (same-start e) at (not-below list flash settings (s .app) facts p)
-
 module _ (list flash o : List ℕ) (settings : Settings) where
   -- the record that it came through is usable after the aborted marks
   came-through : {made : Choice} → SoundAfterMarks list flash o settings made
@@ -126,10 +116,9 @@ module _ (list flash o : List ℕ) (settings : Settings) where
       )
 
   starts-not-below : {made : Choice} → SoundAfterMarks list flash o settings made → StartsNotBelow list flash settings (fromChoice settings o made)
-  starts-not-below nothing start e = absurd (no-start e)
-  starts-not-below (through l u p) start e = begins list flash settings _ start e p
-  starts-not-below (by-factory p) start e = begins list flash settings _ start e p
-  starts-not-below (found p) start e = begins list flash settings _ start e p
+  starts-not-below m start e =
+      let of = passing-start list flash settings (readingsOf (marked settings o)) m start e in
+      not-below list flash settings (start .app) (of .facts) (of .passes)
 
 pub never-law : NeverLaw
 unfolding NeverLaw
@@ -142,6 +131,29 @@ never-law list flash o settings =
     })
     (λ (size : length o ≡ 8192) (made : Choice) (m : SoundAfterMarks list flash o settings made).
     record { through-usable = through-usable list flash o settings size m; not-below = starts-not-below list flash o settings m })
+
+-- ---- what a reply says of the image
+
+pub of-image : (list flash : List ℕ) (settings : Settings) (app : App) (facts : Facts) → passing list flash settings app ≡ Yes facts
+    → (size entry : ℕ) → size ≡ facts .length → entry ≡ facts .entry → OfImage list flash settings app size entry
+of-image list flash settings app facts p size entry same-length same-entry =
+    let accepted = passing-accepted list flash settings app facts p in
+    record {
+      facts = facts;
+      accepted = accepted;
+      same-length = same-length;
+      same-entry = same-entry;
+      within = rw same-length (within (image list flash app) (settings .chip) facts accepted);
+    }
+
+pub image-law : ImageLaw
+unfolding ImageLaw
+image-law list flash o settings start =
+    every-boot list flash o settings (λ (out : Outcome). out .reply ≡ Starts start → OfImage list flash settings (start .app) (start .length) (start .entry))
+    (λ (number : ℕ) (l : OneToThree number) e. absurd (no-start e))
+    (λ (size : length o ≡ 8192) (made : Choice) (m : SoundAfterMarks list flash o settings made) e.
+    let of = passing-start list flash settings (readingsOf (marked settings o)) m start e in
+    of-image list flash settings (start .app) (of .facts) (of .passes) (start .length) (start .entry) (of .same-length) (of .same-entry))
 
 -- ---- the number and the values of a reply
 

@@ -7,6 +7,7 @@ use mathlib.Core.Logic.{_⊎_, inl, inr, ⊎-elim}
 use native.Mathlib.Omega.{arith}
 use lib.ListN.{length, getD, take, length-append}
 use lib.Seq.{take-at, drop-at, take-all}
+use Rattle.otadata.specs.declared.Slot.{Slot}
 use Rattle.otadata.specs.declared.Sequence.{Sequence}
 use Rattle.otadata.specs.declared.Reading.{Reading}
 use Rattle.sectors.specs.declared.Holder.the-variants.{Sector}
@@ -25,12 +26,12 @@ use Rattle.boot_choice.specs.declared.Choice.the-variants.{Through}
 use Rattle.boot.specs.declared.Start.{Start}
 use Rattle.boot.specs.declared.Reply.the-variants.{Starts}
 use Rattle.boot_choice.specs.Choice.{passing, passed, namedSlot, choice}
-use Rattle.boot.specs.Boot.{marked, registerAfter, replyTo, boot, Accepts}
+use Rattle.boot.specs.Boot.{marked, registerAfter, startOf, replyTo, boot, Accepts}
 use Rattle.boot_laws.specs.Laws.{NeverLaw}
 use Rattle.boot_laws.specs.PowerCut.{otadataOf, Untouched, Prevails, StartsRecord, Demand3}
 use Rattle.boot_laws.proofs.Changes.{same-good, left-alone}
-use Rattle.boot_laws.proofs.Laws.{same-start, same-sector, never-law}
-use Rattle.boot.proofs.Replies.{afterMarks, replies}
+use Rattle.boot_laws.proofs.Laws.{same-sector, never-law}
+use Rattle.boot.proofs.Replies.{same-start, afterMarks, replies}
 use Rattle.boot.proofs.ThroughRecords.{UsableOf, active-or, passed-facts, through-active, through-other}
 use Rattle.sectors.proofs.Activity.{two}
 use Rattle.sectors.proofs.TwoSectors.{readings-at}
@@ -70,17 +71,22 @@ module _ (p : ℕ) (l : p < 2) (own other : List ℕ) (own-size : length own ≡
 
 module _ (list flash o : List ℕ) (settings : Settings) (accepts : Accepts list (length flash) (length o) settings) where
   -- a choice through a record is a start of that record's app
-  pub starts-record : (k : ℕ) (q : Sequence) (facts : Facts) → choice list flash settings (afterMarks settings o) ≡ Through k (namedSlot list q) facts
-      → StartsRecord list settings (boot list flash o settings .reply) k q
+  pub starts-through : (k : ℕ) (slot : Slot) (facts : Facts) → choice list flash settings (afterMarks settings o) ≡ Through k slot facts
+      → boot list flash o settings .reply ≡ Starts (startOf (OtaSlot slot) (Sector k) (settings .efuse) facts)
   unfolding registerAfter
-  starts-record k q facts e = replies list flash o settings accepts ∙ ap (λ (c : Choice). replyTo settings (afterMarks settings o) c .reply) e
+  starts-through k slot facts e = replies list flash o settings accepts ∙ ap (λ (c : Choice). replyTo settings (afterMarks settings o) c .reply) e
+
+  starts-record : (k : ℕ) (q : Sequence) (facts : Facts) → passing list flash settings (OtaSlot (namedSlot list q)) ≡ Yes facts
+      → choice list flash settings (afterMarks settings o) ≡ Through k (namedSlot list q) facts
+      → StartsRecord list flash settings (boot list flash o settings .reply) k q
+  starts-record k q facts p e = record { facts = facts; passes = p; starts = starts-through k (namedSlot list q) facts e }
 
 -- ---- which record boot starts
 
 -- the record of sector p prevails and is started, or it doesn't and the other one, of sequence u, is
 module _ (list flash o : List ℕ) (settings : Settings) (p : ℕ) (u : Sequence) where
   abbrev Started : ℕ → Sequence → Type 0
-  Started = StartsRecord list settings (boot list flash o settings .reply)
+  Started = StartsRecord list flash settings (boot list flash o settings .reply)
 
   abbrev Prevailing : Type 0
   Prevailing = Prevails list flash settings o p
@@ -95,7 +101,7 @@ module _ (list flash o : List ℕ) (settings : Settings) (p : ℕ) (u : Sequence
   own-only : p < 2 → EitherStarts → (start : Start) → boot list flash o settings .reply ≡ Starts start → start .through ≡ Sector p → Prevailing
   own-only l (inl (w, starts)) start e by = w
   own-only l (inr (loses, starts)) start e by =
-      let same = same-sector (ap (λ (s : Start). s .through) (same-start (sym starts ∙ e)) ∙ by) in absurd (omega arith)
+      let same = same-sector (ap (λ (s : Start). s .through) (same-start (sym (starts .starts) ∙ e)) ∙ by) in absurd (omega arith)
 
   other-starts : EitherStarts → (Prevailing → ⊥) → Started (1 - p) u
   other-starts (inl (w, starts)) loses = absurd (loses w)
@@ -132,7 +138,7 @@ module _ (list flash o : List ℕ) (settings : Settings) (size : length o ≡ 81
   other-active is =
       inr (
         (λ (w : Prevailing list flash o settings p u). let same = same-sector (sym (w .is-active) ∙ is) in omega arith),
-        starts-record list flash o settings accepts (1 - p) u (other-passes .0)
+        starts-record list flash o settings accepts (1 - p) u (other-passes .0) (other-passes .1)
             (through-active list flash settings readings (1 - p) u is other-usable (other-passes .0) (other-passes .1)),
       )
 
@@ -143,14 +149,14 @@ module _ (list flash o : List ℕ) (settings : Settings) (size : length o ≡ 81
       by (Yes facts) e =
           inl (
             record { sequence = q; state = r .state; is-active = is; holds = sym (verdict-at p l) ∙ r .holds; passes = ap passed e },
-            starts-record list flash o settings accepts p q facts (through-active list flash settings readings p q is r facts e),
+            starts-record list flash o settings accepts p q facts e (through-active list flash settings readings p q is r facts e),
           )
       by No e =
           inr (
             (λ (w : Prevailing list flash o settings p u).
                 let same = same-good (sym (w .holds) ∙ sym (verdict-at p l) ∙ r .holds) .0 in
                 true-is-not-false _ (w .passes) (rw same (ap passed e))),
-            starts-record list flash o settings accepts (1 - p) u (other-passes .0)
+            starts-record list flash o settings accepts (1 - p) u (other-passes .0) (other-passes .1)
                 (through-other list flash settings readings p q is r e u other-usable (other-passes .0) (other-passes .1)),
           )
 

@@ -56,6 +56,22 @@ pub record Never (list flash o : List ℕ) (settings : Settings) (out : Outcome)
 unfoldable pub NeverLaw : Type 0
 NeverLaw = (list flash o : List ℕ) (settings : Settings) → Never list flash o settings (boot list flash o settings)
 
+-- ---- what a reply says of the image
+
+-- the length and the entry address are those of an app's image, which is accepted and ends within the app's part of the flash
+pub record OfImage (list flash : List ℕ) (settings : Settings) (app : App) (size entry : ℕ) : Type 0 where
+  pub facts : Facts
+  pub accepted : check (image list flash app) (settings .chip) .reply ≡ Accepted facts
+  pub same-length : size ≡ facts .length
+  pub same-entry : entry ≡ facts .entry
+  pub within : size ≤ length (image list flash app)
+
+-- a boot that starts an app gives those of its image
+unfoldable pub ImageLaw : Type 0
+ImageLaw =
+    (list flash o : List ℕ) (settings : Settings) (start : Start)
+    → boot list flash o settings .reply ≡ Starts start → OfImage list flash settings (start .app) (start .length) (start .entry)
+
 -- ---- the number and the values of a reply
 
 -- they are those of its view

@@ -15,13 +15,15 @@ use Rattle.otadata.specs.Records.{usableState}
 use Rattle.sectors.specs.Sectors.{readsAs, sectorReading, active, sectorAt, readingsOf}
 use Rattle.sectors.specs.PowerCut.{Call, after, History}
 use Rattle.partitions.specs.declared.App.the-variants.{OtaSlot}
+use Rattle.app_image.specs.declared.Facts.{Facts}
 use Rattle.boot_choice.specs.declared.Settings.{Settings}
+use Rattle.boot_choice.specs.declared.Passing.the-variants.{Yes}
 use Rattle.boot.specs.declared.Start.{Start}
 use Rattle.boot.specs.declared.Reply.{Reply}
 use Rattle.boot.specs.declared.Reply.the-variants.{Starts}
 use Rattle.boot_choice.specs.Acceptance.{otadataSize}
-use Rattle.boot_choice.specs.Choice.{namedSlot, Passes}
-use Rattle.boot.specs.Boot.{marked, boot, Accepts}
+use Rattle.boot_choice.specs.Choice.{passing, Passes, namedSlot}
+use Rattle.boot.specs.Boot.{marked, startOf, boot, Accepts}
 use Rattle.boot_laws.specs.Laws.{Never}
 
 -- otadata with these bytes in sector p, 0 or 1, and those in the other one
@@ -45,9 +47,12 @@ pub record Prevails (list flash : List ℕ) (settings : Settings) (o : List ℕ)
   pub holds : sectorReading (sectorAt p (marked settings o)) .verdict ≡ Good sequence state
   pub passes : Passes list flash settings (OtaSlot (namedSlot list sequence))
 
--- document 01: boot starts a record's app if it replies 0 with that record's slot and sector. The register comes back as given
-abbrev pub StartsRecord : List ℕ → Settings → Reply → ℕ → Sequence → Type 0
-StartsRecord list settings r k q = r ≡ Starts (record { app = OtaSlot (namedSlot list q); through = Sector k; register = settings .efuse })
+-- document 01: boot starts a record's app if it replies 0 with that record's slot and sector. The register comes back as given, and the
+-- length and the entry address are those of the app's image
+pub record StartsRecord (list flash : List ℕ) (settings : Settings) (r : Reply) (k : ℕ) (q : Sequence) : Type 0 where
+  pub facts : Facts
+  pub passes : passing list flash settings (OtaSlot (namedSlot list q)) ≡ Yes facts
+  pub starts : r ≡ Starts (startOf (OtaSlot (namedSlot list q)) (Sector k) (settings .efuse) facts)
 
 -- what is claimed of the bytes `left` in sector p, the last rewrite of which began on `before`, with `rec`, and was cut at k
 pub record Claim (before rec : List ℕ) (k : ℕ) (left : List ℕ) (p : ℕ) (other : List ℕ) (u : Sequence) (list flash : List ℕ) (settings : Settings)
@@ -58,13 +63,13 @@ pub record Claim (before rec : List ℕ) (k : ℕ) (left : List ℕ) (p : ℕ) (
   pub finished : k ≡ 4128 → readsAs left ≡ rec
   -- the next boot starts the app of the rewritten sector's record where that prevails
   pub own : (w : Prevails list flash settings (otadataOf p left other) p)
-      → StartsRecord list settings (boot list flash (otadataOf p left other) settings .reply) p (w .sequence)
+      → StartsRecord list flash settings (boot list flash (otadataOf p left other) settings .reply) p (w .sequence)
   -- and only there
   pub own-only : (start : Start) → boot list flash (otadataOf p left other) settings .reply ≡ Starts start → start .through ≡ Sector p
       → Prevails list flash settings (otadataOf p left other) p
   -- otherwise the untouched record's app
   pub otherwise : (Prevails list flash settings (otadataOf p left other) p → ⊥)
-      → StartsRecord list settings (boot list flash (otadataOf p left other) settings .reply) (1 - p) u
+      → StartsRecord list flash settings (boot list flash (otadataOf p left other) settings .reply) (1 - p) u
   -- it never starts one through a record marked invalid or aborted, nor, with anti-rollback on, one below the eFuse version
   pub never : Never list flash (otadataOf p left other) settings (boot list flash (otadataOf p left other) settings)
 

@@ -70,11 +70,11 @@ pub record WitnessesIn (p : ℕ) : Type 0 where
   -- cut one store before the end: the new record prevails, and boot starts slot 0 through it
   pub late : PremisesAt 4127 p
   pub prevails : Prevails exampleList exampleFlash exampleSettings (otadataLeft 4127 p) p
-  pub starts-new : StartsRecord exampleList exampleSettings (nextReply 4127 p) p newSequence
+  pub starts-new : StartsRecord exampleList exampleFlash exampleSettings (nextReply 4127 p) p newSequence
   -- cut in the middle: nothing prevails there, and boot starts slot 1 through the untouched record
   pub middle : PremisesAt 2000 p
   pub loses : Prevails exampleList exampleFlash exampleSettings (otadataLeft 2000 p) p → ⊥
-  pub starts-old : StartsRecord exampleList exampleSettings (nextReply 2000 p) (1 - p) oldSequence
+  pub starts-old : StartsRecord exampleList exampleFlash exampleSettings (nextReply 2000 p) (1 - p) oldSequence
 
 -- in either sector
 unfoldable pub Witnesses : Type 0

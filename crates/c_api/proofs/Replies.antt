@@ -14,12 +14,14 @@ use Rattle.update.specs.declared.Refusal.{Refusal}
 use Rattle.update.specs.declared.Completion.{Completion}
 use Rattle.update.specs.declared.Reply.{Reply}
 use Rattle.update.specs.declared.Reply.the-variants.{Refused, Done}
+use Rattle.update.specs.declared.MarkedInvalid.{MarkedInvalid}
+use Rattle.update.specs.declared.MarkedInvalid.the-variants.{Refused as NotMarked, Done as Marked}
 use Rattle.update.specs.declared.Queried.{Queried}
 use Rattle.update.specs.declared.Queried.the-variants.{Refused as NotFound, Found}
 use Rattle.update.specs.declared.NextSlot.{NextSlot}
 use Rattle.update.specs.declared.NextSlot.the-variants.{Refused as NoNext, Next}
 use Rattle.otadata.specs.Answers.{viewed, outcome as Update·outcome}
-use Rattle.update.specs.Replies.{view, queryView, nextView}
+use Rattle.update.specs.Replies.{view, invalidView, queryView, nextView}
 use Rattle.update.specs.SetBoot.{setBoot}
 use Rattle.update.specs.Marks.{markValid, markInvalid}
 use Rattle.update.specs.Queries.{stateQuery, nextSlot}
@@ -27,34 +29,35 @@ use Rattle.c_api.specs.Interface.{answer, toC, slotOf, runningApp, outco
 
 -- ---- set-boot and the marks, with the settings that the arguments stand for
 
-module _ (list flash o : List ℕ) (settings : Settings) (slot : Slot) (r : Reply) (left : List ℕ) (given : Settings) (same : settings ≡ given) where
-  module _ (is : Update·outcome (viewed view r) left ≡ setBoot list flash o settings slot) where
+module _ (list flash o : List ℕ) (settings : Settings) (slot : Slot) (left : List ℕ) (given : Settings) (same : settings ≡ given) where
+  module _ (r : Reply) (is : Update·outcome (viewed view r) left ≡ setBoot list flash o settings slot) where
     pub set-refused : (refusal : Refusal) → r ≡ Refused refusal
-        → outcome (answer (refusal .number) (refusal .image .number ∷ refusal .image .place ∷ [])) left ≡ ofSetBoot (setBoot list flash o given slot)
+        → outcome (answer (refusal .number) (refusal .image .number ∷ refusal .image .place ∷ 0 ∷ 0 ∷ [])) left
+        ≡ ofSetBoot (setBoot list flash o given slot)
     set-refused refusal e = simp (← same, ← is, e)
 
     pub set-done : (completion : Completion) → r ≡ Done completion
-        → outcome (answer 0 (0 ∷ 0 ∷ [])) left ≡ ofSetBoot (setBoot list flash o given slot)
+        → outcome (answer 0 (0 ∷ 0 ∷ completion .length ∷ completion .entry ∷ [])) left ≡ ofSetBoot (setBoot list flash o given slot)
     set-done completion e = simp (← same, ← is, e)
 
-  module _ (is : Update·outcome (viewed view r) left ≡ markValid list flash o settings slot) where
+  module _ (r : Reply) (is : Update·outcome (viewed view r) left ≡ markValid list flash o settings slot) where
     pub valid-refused : (refusal : Refusal) → r ≡ Refused refusal
-        → outcome (answer (refusal .number) (refusal .register ∷ refusal .image .number ∷ refusal .image .place ∷ [])) left
+        → outcome (answer (refusal .number) (refusal .register ∷ refusal .image .number ∷ refusal .image .place ∷ 0 ∷ 0 ∷ [])) left
         ≡ ofCall (markValid list flash o given slot)
     valid-refused refusal e = simp (← same, ← is, e)
 
     pub valid-done : (completion : Completion) → r ≡ Done completion
-        → outcome (answer 0 (completion .register ∷ 0 ∷ 0 ∷ [])) left ≡ ofCall (markValid list flash o given slot)
+        → outcome (answer 0 (completion .register ∷ 0 ∷ 0 ∷ completion .length ∷ completion .entry ∷ [])) left
+        ≡ ofCall (markValid list flash o given slot)
     valid-done completion e = simp (← same, ← is, e)
 
-  module _ (is : Update·outcome (viewed view r) left ≡ markInvalid list flash o settings slot) where
-    pub invalid-refused : (refusal : Refusal) → r ≡ Refused refusal
+  module _ (r : MarkedInvalid) (is : Update·outcome (viewed invalidView r) left ≡ markInvalid list flash o settings slot) where
+    pub invalid-refused : (refusal : Refusal) → r ≡ NotMarked refusal
         → outcome (answer (refusal .number) []) left ≡ ofMarkInvalid (markInvalid list flash o given slot)
     invalid-refused refusal e = simp (← same, ← is, e)
 
-    pub invalid-done : (completion : Completion) → r ≡ Done completion
-        → outcome (answer 0 []) left ≡ ofMarkInvalid (markInvalid list flash o given slot)
-    invalid-done completion e = simp (← same, ← is, e)
+    pub invalid-done : (register : ℕ) → r ≡ Marked register → outcome (answer 0 []) left ≡ ofMarkInvalid (markInvalid list flash o given slot)
+    invalid-done register e = simp (← same, ← is, e)
 
 -- ---- the state query
 

@@ -11,7 +11,7 @@ use Rattle.efuse.specs.declared.ChipId.{ChipId}
 use Rattle.partitions.specs.declared.App.{App}
 use Rattle.partitions.specs.declared.App.the-variants.{Factory, OtaSlot}
 use Rattle.boot_choice.specs.declared.Settings.{Settings}
-use Rattle.update.specs.Replies.{Outcome as Update·Outcome}
+use Rattle.update.specs.Replies.{Outcome as Update·Outcome, InvalidOutcome}
 
 -- ---- an answer
 
@@ -41,9 +41,9 @@ flag f = not (eqb f 0)
 abbrev pub chipOf : ℕ → ChipId
 chipOf id = record { 0 = id }
 
-abbrev pub settingsOf : ℕ → ℕ → ℕ → ℕ → Settings
-settingsOf chip efuse rollback anti =
-    record { chip = chipOf chip; efuse = efuse; rollback = flag rollback; «anti_rollback» = flag anti }
+abbrev pub settingsOf : ℕ → ℕ → ℕ → ℕ → ℕ → Settings
+settingsOf chip revision efuse rollback anti =
+    record { chip = chipOf chip; revision = record { 0 = revision }; efuse = efuse; rollback = flag rollback; «anti_rollback» = flag anti }
 
 -- the slot of a number
 abbrev pub slotOf : ℕ → Slot
@@ -70,5 +70,5 @@ abbrev pub ofSetBoot : Update·Outcome → Outcome
 ofSetBoot u = outcome (answer (u .answer .number) (drop 1 (u .answer .values))) (u .otadata)
 
 -- that of mark-invalid: the number alone
-abbrev pub ofMarkInvalid : Update·Outcome → Outcome
+abbrev pub ofMarkInvalid : InvalidOutcome → Outcome
 ofMarkInvalid u = outcome (answer (u .answer .number) []) (u .otadata)

@@ -9,6 +9,7 @@ ghost use Rattle.c_api.specs.Interface.{answer, toC, settingsOf, slotOf,
 use crate::node::settings_of;
 use otadata::Slot;
 use partitions::App;
+use update::MarkedInvalid;
 use update::NextSlot;
 use update::Queried;
 use update::Reply;
@@ -21,74 +22,87 @@ use update::state_query;
 // The running app's number that stands for factory.
 const FACTORY: u32 = 0xFFFF_FFFF;
 
-// Set-boot: 0 or a refusal, with the image's own number and place where that is 5.
+// Set-boot: 0 with the length and the entry address of the slot's image, or a refusal, with the image's own number and place where that
+// is 5.
 #[no_mangle]
 pub extern "C" fn ota_set_boot(
     list: &[u32],
     flash: &[u8],
     otadata: &mut [u8],
     chip: u16,
+    revision: u16,
     efuse: u32,
     rollback: u8,
     anti: u8,
     slot: u32,
-    out: &mut [u64; 2],
+    out: &mut [u64; 4],
 ) -> u32
-    ensures { λ r. ⌜ outcome (answer r (now (out .exit))) (now (otadata .exit)) ≡ ofSetBoot (setBoot (now (list .entry)) (now (flash .entry)) (now (otadata .entry)) (settingsOf chip efuse rollback anti) (slotOf slot)) ⌝ }
+    ensures { λ r. ⌜ outcome (answer r (now (out .exit))) (now (otadata .exit)) ≡ ofSetBoot (setBoot (now (list .entry)) (now (flash .entry)) (now (otadata .entry)) (settingsOf chip revision efuse rollback anti) (slotOf slot)) ⌝ }
 {
     let reply = set_boot(
         list,
         flash,
         otadata,
-        settings_of(chip, efuse, rollback, anti),
+        settings_of(chip, revision, efuse, rollback, anti),
         Slot(slot),
     );
     match reply {
         Reply::Refused(refusal) => {
-            *out = [refusal.image.number as u64, refusal.image.place as u64];
+            let image = refusal.image;
+            *out = [image.number as u64, image.place as u64, 0, 0];
             refusal.number
         }
-        Reply::Done(_) => {
-            *out = [0, 0];
+        Reply::Done(completion) => {
+            *out = [0, 0, completion.length as u64, completion.entry as u64];
             0
         }
     }
 }
 
-// Mark-valid of the running slot: 0 with the register to burn, or a refusal with the register as given, and the image's own
-// number and place where the refusal is 5.
+// Mark-valid of the running slot: 0 with the register to burn, and the length and the entry address of its image, or a refusal with the
+// register as given, and the image's own number and place where the refusal is 5.
 #[no_mangle]
 pub extern "C" fn ota_mark_valid(
     list: &[u32],
     flash: &[u8],
     otadata: &mut [u8],
     chip: u16,
+    revision: u16,
     efuse: u32,
     rollback: u8,
     anti: u8,
     slot: u32,
-    out: &mut [u64; 3],
+    out: &mut [u64; 5],
 ) -> u32
-    ensures { λ r. ⌜ outcome (answer r (now (out .exit))) (now (otadata .exit)) ≡ ofCall (markValid (now (list .entry)) (now (flash .entry)) (now (otadata .entry)) (settingsOf chip efuse rollback anti) (slotOf slot)) ⌝ }
+    ensures { λ r. ⌜ outcome (answer r (now (out .exit))) (now (otadata .exit)) ≡ ofCall (markValid (now (list .entry)) (now (flash .entry)) (now (otadata .entry)) (settingsOf chip revision efuse rollback anti) (slotOf slot)) ⌝ }
 {
     let reply = mark_valid(
         list,
         flash,
         otadata,
-        settings_of(chip, efuse, rollback, anti),
+        settings_of(chip, revision, efuse, rollback, anti),
         Slot(slot),
     );
     match reply {
         Reply::Refused(refusal) => {
+            let image = refusal.image;
             *out = [
                 refusal.register as u64,
-                refusal.image.number as u64,
-                refusal.image.place as u64,
+                image.number as u64,
+                image.place as u64,
+                0,
+                0,
             ];
             refusal.number
         }
         Reply::Done(completion) => {
-            *out = [completion.register as u64, 0, 0];
+            *out = [
+                completion.register as u64,
+                0,
+                0,
+                completion.length as u64,
+                completion.entry as u64,
+            ];
             0
         }
     }
@@ -101,23 +115,24 @@ pub extern "C" fn ota_mark_invalid(
     flash: &[u8],
     otadata: &mut [u8],
     chip: u16,
+    revision: u16,
     efuse: u32,
     rollback: u8,
     anti: u8,
     slot: u32,
 ) -> u32
-    ensures { λ r. ⌜ outcome (answer r []) (now (otadata .exit)) ≡ ofMarkInvalid (markInvalid (now (list .entry)) (now (flash .entry)) (now (otadata .entry)) (settingsOf chip efuse rollback anti) (slotOf slot)) ⌝ }
+    ensures { λ r. ⌜ outcome (answer r []) (now (otadata .exit)) ≡ ofMarkInvalid (markInvalid (now (list .entry)) (now (flash .entry)) (now (otadata .entry)) (settingsOf chip revision efuse rollback anti) (slotOf slot)) ⌝ }
 {
     let reply = mark_invalid(
         list,
         flash,
         otadata,
-        settings_of(chip, efuse, rollback, anti),
+        settings_of(chip, revision, efuse, rollback, anti),
         Slot(slot),
     );
     match reply {
-        Reply::Refused(refusal) => refusal.number,
-        Reply::Done(_) => 0,
+        MarkedInvalid::Refused(refusal) => refusal.number,
+        MarkedInvalid::Done(_) => 0,
     }
 }
 
@@ -152,19 +167,20 @@ pub extern "C" fn ota_next_slot(
     flash: &[u8],
     otadata: &[u8],
     chip: u16,
+    revision: u16,
     efuse: u32,
     rollback: u8,
     anti: u8,
     running: u32,
     out: &mut [u32; 1],
 ) -> u32
-    ensures { λ r. ⌜ answer r (now (out .exit)) ≡ toC 1 (nextSlot (now (list .entry)) (length (now (flash .entry))) (now (otadata .entry)) (settingsOf chip efuse rollback anti) (runningApp running) .answer) ⌝ }
+    ensures { λ r. ⌜ answer r (now (out .exit)) ≡ toC 1 (nextSlot (now (list .entry)) (length (now (flash .entry))) (now (otadata .entry)) (settingsOf chip revision efuse rollback anti) (runningApp running) .answer) ⌝ }
 {
     let next = next_slot(
         list,
         flash,
         otadata,
-        settings_of(chip, efuse, rollback, anti),
+        settings_of(chip, revision, efuse, rollback, anti),
         running_app(running),
     );
     match next {

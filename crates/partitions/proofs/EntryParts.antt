@@ -2,15 +2,18 @@
 -- Assumes nothing.
 use Prim.Native.Nat.{ℕ, _-_, _<_, _≤_}
 use mathlib.Core.Path.{_≡_, refl, sym, ap}
-use mathlib.Core.List.{List}
+use mathlib.Core.Bool.{Bool, true, false, cond, _&&_}
+use mathlib.Core.List.{List, []}
 use mathlib.Core.Logic.{inl, inr}
 use native.Mathlib.Omega.{arith}
+use lib.Dec.{ltb}
 use lib.ListN.{length, length-drop}
 use lib.Seq.{length-take-le}
-use borrow.Author.Tests.{eq-eqb, ne-eqb, lt-ltb}
+use borrow.Author.Tests.{eq-eqb, ne-eqb, lt-ltb, ltb-true}
 use Rattle.sectors.specs.Sectors.{Part}
+use Rattle.partitions.specs.declared.App.{App}
 use Rattle.partitions.specs.PartitionList.{entryCount, entryAt, endOf, hasSubtype, timesListed, slotCount, slotSubtype, factorySubtype}
-use Rattle.partitions.specs.PartitionList.{subtypeOf, entryOf, entryPart, appPart, appOf, EntryParts}
+use Rattle.partitions.specs.PartitionList.{maxFlash, right, subtypeOf, entryOf, entryPart, appPart, appOf, EntryParts}
 use Rattle.partitions.specs.RightList.{FactoryOrSlot, RightList}
 use Rattle.partitions.proofs.Below.{count-once, first-found, first-least}
 use Rattle.partitions.proofs.RightMeans.{right-is}
@@ -45,6 +48,23 @@ the-entry list i l once =
 part-length : (list : List ℕ) (flash : Part) (i : ℕ) → endOf (entryAt list i) ≤ length (flash .content)
     → length (entryPart (entryAt list i) flash .content) ≡ entryAt list i .size
 part-length list flash i ends = length-take-le _ _ (simp length-drop (omega arith))
+
+-- no part is longer than the longest flash
+pub part-fits : (list : List ℕ) (flash : Part) (app : App) → length (appPart list flash app .content) ≤ maxFlash
+unfolding appPart
+part-fits list flash app = by (right list (length (flash .content))) (ltb i (entryCount list)) refl refl
+  where
+    i : ℕ
+    i = entryOf list (subtypeOf app)
+
+    by : (kept listed : Bool) → right list (length (flash .content)) ≡ kept → ltb i (entryCount list) ≡ listed
+        → length (cond (kept && listed) (entryPart (entryAt list i) flash) (record { place = flash .place; content = [] }) .content) ≤ maxFlash
+    by true true r l =
+        let facts = right-is list (length (flash .content)) r in
+        let ends = facts .entries i (ltb-true i (entryCount list) l) .ends in
+        omega (arith, part-length list flash i ends, ends, facts .flash)
+    by true false r l = omega arith
+    by false listed r l = omega arith
 
 pub entry-parts : EntryParts
 unfolding EntryParts appPart

@@ -1,7 +1,7 @@
 -- The two marks, as the code puts them together.
 -- Assumes nothing.
 use Prim.Native.Nat.{ℕ, _<_}
-use mathlib.Core.Path.{_≡_, _∙_, refl, sym, ap, subst}
+use mathlib.Core.Path.{_≡_, _∙_, refl, sym, ap, ap₂, subst}
 use mathlib.Core.Bool.{Bool, true, false, not}
 use mathlib.Core.List.{List}
 use lib.ListN.{length, getD}
@@ -27,10 +27,10 @@ use Rattle.slot_records.specs.Naming.{activeNaming}
 use Rattle.slot_records.proofs.Named.{naming-below-two}
 use Rattle.update.specs.declared.Refusal.{Refusal}
 use Rattle.update.specs.declared.Reply.{Reply}
-use Rattle.update.specs.declared.Reply.the-variants.{Refused, Done}
+use Rattle.update.specs.declared.MarkedInvalid.the-variants.{Refused as NotMarked, Done as Marked}
 use Rattle.update.specs.declared.Examined.{Examined}
 use Rattle.update.specs.declared.Examined.the-variants.{Fit}
-use Rattle.update.specs.Replies.{view, refusal}
+use Rattle.update.specs.Replies.{view, invalidView, refusal, done}
 use Rattle.update.specs.Tests.{acceptedSlot, examined, afterImage}
 use Rattle.update.specs.Marks.{confirmed, registerRaised, confirms, validNamed, choosesNothing, invalidNamed}
 use Rattle.update.specs.Fallback.{fallsBack}
@@ -79,8 +79,8 @@ module _ (k : ℕ) (o : List ℕ) (reading : Reading) (read : reading ≡ sector
 
 pub valid-fit : (settings : Settings) (k : ℕ) (o : List ℕ) (t : Examined) (facts : Facts) → t ≡ Fit facts → (left : List ℕ) → left ≡ confirmed k o
     → (register : ℕ) → register ≡ registerRaised settings (facts .version)
-    → outcome (viewed view (Done (record { register = register }))) left ≡ afterImage o t (confirms settings k o)
-valid-fit settings k o t facts e left put register r = simp (e, put, r)
+    → (done-by : Reply) → viewed view done-by ≡ done register facts → outcome (viewed view done-by) left ≡ afterImage o t (confirms settings k o)
+valid-fit settings k o t facts e left put register r done-by is = ap₂ outcome is put ∙ simp (e, r)
 
 pub valid-named : (list flash o : List ℕ) (settings : Settings) (slot : Slot) (n : ℕ) (rs : List Reading) → rs ≡ readingsOf o
     → (h : Holder) → h ≡ activeNaming n slot rs → (k : ℕ) → h ≡ Sector k → (t : Examined) → t ≡ examined list flash settings slot
@@ -99,9 +99,9 @@ module _ (list flash o : List ℕ) (settings : Settings) (slot : Slot) (n : ℕ)
       ∙ sym (ap not (tested ∙ ap (λ (x : List Reading). fallsBack list flash settings x k) read))
 
   pub no-fallback : not t ≡ true → (why : Refusal) → why ≡ refusal settings 9
-      → outcome (viewed view (Refused why)) o ≡ invalidNamed list flash o settings slot n
+      → outcome (viewed invalidView (NotMarked why)) o ≡ invalidNamed list flash o settings slot n
   no-fallback y why is = simp (← read, ← found, e, by-boot, y, is)
 
   pub becomes-invalid : not t ≡ false → (left : List ℕ) → left ≡ withState Invalid k o
-      → outcome (viewed view (Done (record { register = settings .efuse }))) left ≡ invalidNamed list flash o settings slot n
+      → outcome (viewed invalidView (Marked (settings .efuse))) left ≡ invalidNamed list flash o settings slot n
   becomes-invalid f left put = simp (← read, ← found, e, by-boot, f, put)

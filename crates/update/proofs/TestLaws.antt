@@ -8,7 +8,7 @@ use native.Mathlib.Omega.{arith}
 use lib.Dec.{ltb}
 use borrow.Author.Tests.{lt-ltb, le-ltb, ltb-true, not-true, not-false}
 use denote.Ref.{RefT, now}
-use Rattle.otadata.specs.Answers.{viewed, outcome}
+use Rattle.otadata.specs.Answers.{Answered, viewed, Outcome as Answers·Outcome, outcome}
 use Rattle.otadata.specs.declared.Slot.{Slot}
 use Rattle.otadata.specs.declared.Reading.{Reading}
 use Rattle.sectors.specs.declared.Holder.{Holder}
@@ -33,9 +33,10 @@ use Rattle.slot_records.specs.Naming.{activeNaming, activePending}
 use Rattle.update.specs.declared.Refusal.{Refusal}
 use Rattle.update.specs.declared.Reply.{Reply}
 use Rattle.update.specs.declared.Reply.the-variants.{Refused}
+use Rattle.update.specs.declared.MarkedInvalid.the-variants.{Refused as NotMarked}
 use Rattle.update.specs.declared.Examined.{Examined}
 use Rattle.update.specs.declared.Examined.the-variants.{Unfit, Fit}
-use Rattle.update.specs.Replies.{view, noImage, refusalOf, refusal, imageRefusal, Outcome}
+use Rattle.update.specs.Replies.{view, invalidView, noImage, refusalOf, refusal, imageRefusal, refused, Outcome, notMarked, InvalidOutcome}
 use Rattle.update.specs.Tests.{slotTest, runningTest, acceptedSlot, examined, unconfirmed, afterTests, afterImage, afterNaming}
 
 pub no-image-refused : (settings : Settings) (number : ℕ) (i : ImageRefusal) → i ≡ noImage
@@ -117,14 +118,18 @@ module _ (settings : Settings) (rs : List Reading) where
 
 -- ---- a test, then the rest of the call
 
-module _ (settings : Settings) (o : List ℕ) (a c : Checked) (is : c ≡ a) (rest : ℕ → Outcome) where
-  pub tests-refused : (number : ℕ) → c ≡ NotAccepted number → (why : Refusal) → why ≡ refusal settings number
-      → outcome (viewed view (Refused why)) o ≡ afterTests settings o a rest
-  tests-refused number e why w = simp (← is, e, w)
+module _ (settings : Settings) (o : List ℕ) (a c : Checked) (is : c ≡ a) (number : ℕ) (e : c ≡ NotAccepted number)
+    (why : Refusal) (w : why ≡ refusal settings number) where
+  pub tests-refused : (rest : ℕ → Outcome) → outcome (viewed view (Refused why)) o ≡ afterTests (refused settings) o a rest
+  tests-refused rest = simp (← is, e, w)
 
-  pub tests-accepted : (listing : Listing) → c ≡ Accepted listing → (r : Reply) (left : List ℕ) → outcome (viewed view r) left ≡ rest (listing .slots)
-      → outcome (viewed view r) left ≡ afterTests settings o a rest
-  tests-accepted listing e r left out = out ∙ simp (← is, e)
+  pub invalid-tests-refused : (rest : ℕ → InvalidOutcome) → outcome (viewed invalidView (NotMarked why)) o ≡ afterTests (notMarked settings) o a rest
+  invalid-tests-refused rest = simp (← is, e, w)
+
+module _ {Reply : Type 0} (refuse : ℕ → Answered Reply) (o : List ℕ) (a c : Checked) (is : c ≡ a) (rest : ℕ → Answers·Outcome Reply) where
+  pub tests-accepted : (listing : Listing) → c ≡ Accepted listing → (out : Answers·Outcome Reply) → out ≡ rest (listing .slots)
+      → out ≡ afterTests refuse o a rest
+  tests-accepted listing e out done = done ∙ simp (← is, e)
 
 module _ (o : List ℕ) (a t : Examined) (is : t ≡ a) (rest : Facts → Outcome) where
   pub image-refused : (why : Refusal) → t ≡ Unfit why → outcome (viewed view (Refused why)) o ≡ afterImage o a rest
@@ -135,7 +140,10 @@ module _ (o : List ℕ) (a t : Examined) (is : t ≡ a) (rest : Facts → Outcom
   image-accepted facts e r left out = out ∙ simp (← is, e)
 
 module _ (settings : Settings) (o : List ℕ) (n : ℕ) (s : Slot) (rs : List Reading) (read : rs ≡ readingsOf o)
-    (h : Holder) (found : h ≡ activeNaming n s rs) (rest : ℕ → Outcome) where
-  pub not-named : h ≡ None → (why : Refusal) → why ≡ refusal settings 8
-      → outcome (viewed view (Refused why)) o ≡ afterNaming settings o (activeNaming n s (readingsOf o)) rest
-  not-named e why w = simp (← read, ← found, e, w)
+    (h : Holder) (found : h ≡ activeNaming n s rs) (e : h ≡ None) (why : Refusal) (w : why ≡ refusal settings 8) where
+  pub not-named : (rest : ℕ → Outcome) → outcome (viewed view (Refused why)) o ≡ afterNaming (refused settings) o (activeNaming n s (readingsOf o)) rest
+  not-named rest = simp (← read, ← found, e, w)
+
+  pub invalid-not-named : (rest : ℕ → InvalidOutcome)
+      → outcome (viewed invalidView (NotMarked why)) o ≡ afterNaming (notMarked settings) o (activeNaming n s (readingsOf o)) rest
+  invalid-not-named rest = simp (← read, ← found, e, w)

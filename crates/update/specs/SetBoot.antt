@@ -34,27 +34,27 @@ newRecord settings q = made q (replicate 20 255) (stateWord (newState settings))
 -- ---- the call
 
 -- 7, or the rewrite
-abbrev pub placedAt : Settings → List ℕ → Placement → Outcome
-placedAt settings o Nowhere = outcome (refused settings 7) o
-placedAt settings o (At k q) = outcome (done (settings .efuse)) (withRecord (newRecord settings q) k o)
+abbrev pub placedAt : Settings → Facts → List ℕ → Placement → Outcome
+placedAt settings facts o Nowhere = outcome (refused settings 7) o
+placedAt settings facts o (At k q) = outcome (done (settings .efuse) facts) (withRecord (newRecord settings q) k o)
 
 -- nothing is written where the active record names the slot already
-abbrev pub unlessNamed : Settings → List ℕ → Holder → Outcome → Outcome
-unlessNamed settings o (Sector k) rest = outcome (done (settings .efuse)) o
-unlessNamed settings o None rest = rest
+abbrev pub unlessNamed : Settings → Facts → List ℕ → Holder → Outcome → Outcome
+unlessNamed settings facts o (Sector k) rest = outcome (done (settings .efuse) facts) o
+unlessNamed settings facts o None rest = rest
 
--- 11 and what follows, with n slots
-unfoldable pub pointed : ℕ → Slot → Settings → List ℕ → Outcome
-pointed n s settings o =
+-- 11 and what follows, with n slots, of an app with these facts
+unfoldable pub pointed : ℕ → Slot → Settings → Facts → List ℕ → Outcome
+pointed n s settings facts o =
     cond (unconfirmed settings (readingsOf o))
     (outcome (refused settings 11) o)
-    (unlessNamed settings o (activeNaming n s (readingsOf o)) (placedAt settings o (placement n s (readingsOf o))))
+    (unlessNamed settings facts o (activeNaming n s (readingsOf o)) (placedAt settings facts o (placement n s (readingsOf o))))
 
 -- 5 and 6, and what follows, with n slots
 abbrev pub setListed : List ℕ → List ℕ → List ℕ → Settings → Slot → ℕ → Outcome
-setListed list flash o settings s n = afterImage o (examined list flash settings s) (λ (facts : Facts). pointed n s settings o)
+setListed list flash o settings s n = afterImage o (examined list flash settings s) (λ (facts : Facts). pointed n s settings facts o)
 
 -- document 01's set-boot of slot s
 unfoldable pub setBoot : List ℕ → List ℕ → List ℕ → Settings → Slot → Outcome
 setBoot list flash o settings s =
-    afterTests settings o (acceptedSlot list (length flash) (length o) settings s) (setListed list flash o settings s)
+    afterTests (refused settings) o (acceptedSlot list (length flash) (length o) settings s) (setListed list flash o settings s)

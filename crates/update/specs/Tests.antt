@@ -3,7 +3,7 @@ use Prim.Native.Nat.{ℕ}
 use mathlib.Core.Bool.{Bool, cond, not, _&&_}
 use mathlib.Core.List.{List}
 use lib.Dec.{ltb}
-use Rattle.otadata.specs.Answers.{outcome}
+use Rattle.otadata.specs.Answers.{Answered, Outcome as Answers·Outcome, outcome}
 use Rattle.otadata.specs.declared.Slot.{Slot}
 use Rattle.otadata.specs.declared.Reading.{Reading}
 use Rattle.sectors.specs.declared.Holder.{Holder}
@@ -23,7 +23,7 @@ use Rattle.boot_choice.specs.Choice.{image, tooOld}
 use Rattle.slot_records.specs.Naming.{activePending}
 use Rattle.update.specs.declared.Examined.{Examined}
 use Rattle.update.specs.declared.Examined.the-variants.{Unfit, Fit}
-use Rattle.update.specs.Replies.{refusal, imageRefusal, refusedBy, refused, Outcome}
+use Rattle.update.specs.Replies.{refusal, imageRefusal, refusedBy, Outcome}
 
 -- 4: the slot is not below n
 abbrev pub notBelow : Slot → Listing → Bool
@@ -55,12 +55,12 @@ examined list flash settings s = held settings (check (image list flash (OtaSlot
 unfoldable pub unconfirmed : Settings → List Reading → Bool
 unconfirmed settings rs = settings .rollback && activePending rs
 
--- ---- the tests of set-boot and of the marks, each before the rest of the call; a refusal changes nothing
+-- ---- the tests of set-boot and of the marks, each before the rest of the call; a refusal, by `refuse`, changes nothing
 
 -- 1 to 4, then the rest, with the number of slots
-abbrev pub afterTests : Settings → List ℕ → Checked → (ℕ → Outcome) → Outcome
-afterTests settings o (NotAccepted number) rest = outcome (refused settings number) o
-afterTests settings o (Accepted listing) rest = rest (listing .slots)
+abbrev pub afterTests : {Reply : Type 0} → (ℕ → Answered Reply) → List ℕ → Checked → (ℕ → Answers·Outcome Reply) → Answers·Outcome Reply
+afterTests refuse o (NotAccepted number) rest = outcome (refuse number) o
+afterTests refuse o (Accepted listing) rest = rest (listing .slots)
 
 -- 5 and 6, then the rest, with the facts of the image
 abbrev pub afterImage : List ℕ → Examined → (Facts → Outcome) → Outcome
@@ -68,6 +68,6 @@ afterImage o (Unfit why) rest = outcome (refusedBy why) o
 afterImage o (Fit facts) rest = rest facts
 
 -- 8, then the rest, with the sector of the record that names the slot
-abbrev pub afterNaming : Settings → List ℕ → Holder → (ℕ → Outcome) → Outcome
-afterNaming settings o None rest = outcome (refused settings 8) o
-afterNaming settings o (Sector k) rest = rest k
+abbrev pub afterNaming : {Reply : Type 0} → (ℕ → Answered Reply) → List ℕ → Holder → (ℕ → Answers·Outcome Reply) → Answers·Outcome Reply
+afterNaming refuse o None rest = outcome (refuse 8) o
+afterNaming refuse o (Sector k) rest = rest k

@@ -36,15 +36,23 @@ pub struct Refusal {
     pub register: u32,
 }
 
-// A call that was done: the register to burn.
+// A call that was done: the register to burn, and the whole length and the entry address of the image that it checked.
 pub struct Completion {
     pub register: u32,
+    pub length: usize,
+    pub entry: u32,
 }
 
-// The reply of set-boot and of the marks.
+// The reply of set-boot and of mark-valid.
 pub enum Reply {
     Refused(Refusal),
     Done(Completion),
+}
+
+// The reply of mark-invalid, which checks no image of the running app: done, with the register as it was given.
+pub enum MarkedInvalid {
+    Refused(Refusal),
+    Done(u32),
 }
 
 // The reply of the state query.

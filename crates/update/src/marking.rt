@@ -5,16 +5,17 @@ ghost use Prim.Native.Nat.{_<_};
 ghost use lib.ListN.{length};
 ghost use Rattle.sectors.specs.Sectors.{sectorReading, sectorAt};
 ghost use Rattle.boot.specs.Boot.{Accepts};
-ghost use Rattle.update.specs.Replies.{view};
+ghost use Rattle.update.specs.Replies.{view, invalidView};
 ghost use Rattle.update.specs.Tests.{afterImage};
 ghost use Rattle.update.specs.Marks.{confirmed, registerRaised, confirms, validNamed, markValid, invalidNamed, markInvalid};
 ghost use Rattle.update.specs.Fallback.{readingIn, abortedReading, abortedReadings, fallsBack};
-use crate::Completion;
 use crate::Examined;
+use crate::MarkedInvalid;
 use crate::NO_FALLBACK;
 use crate::NOT_NAMED;
 use crate::Reply;
 use crate::testing::accept_slot;
+use crate::testing::completed;
 use crate::testing::examine;
 use crate::testing::refusal;
 use boot_choice::Settings;
@@ -92,9 +93,7 @@ fn confirm_fit(
         Examined::Unfit(why) => Reply::Refused(why),
         Examined::Fit(facts) => {
             confirm(otadata, reading, k);
-            Reply::Done(Completion {
-                register: register_raised(settings, facts.version),
-            })
+            completed(register_raised(settings, facts.version), facts)
         }
     }
 }
@@ -127,12 +126,12 @@ pub fn mark_invalid(
     otadata: &mut [u8],
     settings: Settings,
     running: Slot,
-) -> Reply
-    ensures { λ r. ⌜ outcome (viewed view r) (now (otadata .exit)) ≡ markInvalid (now (list .entry)) (now (flash .entry)) (now (otadata .entry)) settings running ⌝ }
+) -> MarkedInvalid
+    ensures { λ r. ⌜ outcome (viewed invalidView r) (now (otadata .exit)) ≡ markInvalid (now (list .entry)) (now (flash .entry)) (now (otadata .entry)) settings running ⌝ }
 {
     let checked = accept_slot(list, flash.len(), otadata.len(), settings, running);
     match checked {
-        Checked::Refused(number) => Reply::Refused(refusal(settings, number)),
+        Checked::Refused(number) => MarkedInvalid::Refused(refusal(settings, number)),
         Checked::Accepted(listing) => give_up_named(
             list,
             flash,
@@ -152,22 +151,20 @@ fn give_up_named(
     settings: Settings,
     running: Slot,
     n: u32,
-) -> Reply
+) -> MarkedInvalid
     requires { ⌜ (length (now otadata) ≡ 8192) × Accepts (now list) (length (now flash)) 8192 settings ⌝ }
-    ensures { λ r. ⌜ outcome (viewed view r) (now (otadata .exit)) ≡ invalidNamed (now (list .entry)) (now (flash .entry)) (now (otadata .entry)) settings running n ⌝ }
+    ensures { λ r. ⌜ outcome (viewed invalidView r) (now (otadata .exit)) ≡ invalidNamed (now (list .entry)) (now (flash .entry)) (now (otadata .entry)) settings running n ⌝ }
 {
     let readings = read_both(otadata);
     let failing = active_naming(readings, n, running);
     let Holder::Sector(k) = failing else {
-        return Reply::Refused(refusal(settings, NOT_NAMED));
+        return MarkedInvalid::Refused(refusal(settings, NOT_NAMED));
     };
     if !falls_back(list, flash, settings, readings, k) {
-        return Reply::Refused(refusal(settings, NO_FALLBACK));
+        return MarkedInvalid::Refused(refusal(settings, NO_FALLBACK));
     }
     restate_at(otadata, k, State::Invalid);
-    Reply::Done(Completion {
-        register: settings.efuse,
-    })
+    MarkedInvalid::Done(settings.efuse)
 }
 
 // Whether boot would choose something, once the record of sector k is invalid.

@@ -1,17 +1,18 @@
 // Set-boot: the record that names a slot goes into the sector that is not active.
 ghost use mathlib.Core.Path.{_≡_};
 ghost use Rattle.otadata.specs.Answers.{viewed, outcome};
-ghost use Rattle.update.specs.Replies.{view, done};
+ghost use Rattle.update.specs.Replies.{view};
 ghost use Rattle.update.specs.SetBoot.{newRecord, newState, placedAt, pointed, setListed, setBoot};
-use crate::Completion;
 use crate::Examined;
 use crate::Reply;
 use crate::SEQUENCE_TOO_HIGH;
 use crate::UNCONFIRMED;
 use crate::testing::accept_slot;
+use crate::testing::completed;
 use crate::testing::examine;
 use crate::testing::refusal;
 use crate::testing::unconfirmed;
+use app_image::Facts;
 use boot_choice::Settings;
 use otadata::Sequence;
 use otadata::Slot;
@@ -63,13 +64,14 @@ fn set_listed(
     let tested = examine(list, flash, settings, slot);
     match tested {
         Examined::Unfit(why) => Reply::Refused(why),
-        Examined::Fit(_) => point_to(otadata, settings, slot, n),
+        Examined::Fit(facts) => point_to(otadata, settings, slot, n, facts),
     }
 }
 
-// Test 11, and what follows it, with n slots. Nothing is written where the active record names the slot already.
-fn point_to(otadata: &mut [u8], settings: Settings, slot: Slot, n: u32) -> Reply
-    ensures { λ r. ⌜ outcome (viewed view r) (now (otadata .exit)) ≡ pointed n slot settings (now (otadata .entry)) ⌝ }
+// Test 11, and what follows it, with n slots, of an app with these facts. Nothing is written where the active record names the slot
+// already.
+fn point_to(otadata: &mut [u8], settings: Settings, slot: Slot, n: u32, facts: Facts) -> Reply
+    ensures { λ r. ⌜ outcome (viewed view r) (now (otadata .exit)) ≡ pointed n slot settings facts (now (otadata .entry)) ⌝ }
 {
     let readings = read_both(otadata);
     if unconfirmed(settings, readings) {
@@ -77,31 +79,22 @@ fn point_to(otadata: &mut [u8], settings: Settings, slot: Slot, n: u32) -> Reply
     }
     let holder = active_naming(readings, n, slot);
     match holder {
-        Holder::Sector(_) => unchanged(settings),
-        Holder::None => write_new(otadata, settings, place_new(readings, n, slot)),
+        Holder::Sector(_) => completed(settings.efuse, facts),
+        Holder::None => write_new(otadata, settings, facts, place_new(readings, n, slot)),
     }
 }
 
 // Test 7, then the rewrite with the new record.
-fn write_new(otadata: &mut [u8], settings: Settings, place: Placement) -> Reply
-    ensures { λ r. ⌜ outcome (viewed view r) (now (otadata .exit)) ≡ placedAt settings (now (otadata .entry)) place ⌝ }
+fn write_new(otadata: &mut [u8], settings: Settings, facts: Facts, place: Placement) -> Reply
+    ensures { λ r. ⌜ outcome (viewed view r) (now (otadata .exit)) ≡ placedAt settings facts (now (otadata .entry)) place ⌝ }
 {
     match place {
         Placement::Nowhere => Reply::Refused(refusal(settings, SEQUENCE_TOO_HIGH)),
         Placement::At(k, sequence) => {
             rewrite_at(otadata, k, &new_record(settings, sequence));
-            unchanged(settings)
+            completed(settings.efuse, facts)
         }
     }
-}
-
-// Done, with the register as given.
-fn unchanged(settings: Settings) -> Reply
-    ensures { λ r. ⌜ viewed view r ≡ done (settings .efuse) ⌝ }
-{
-    Reply::Done(Completion {
-        register: settings.efuse,
-    })
 }
 
 // The record of set-boot: its label is 20 bytes 0xFF.

@@ -1,13 +1,17 @@
-// The tests that several calls share: 4, 5 and 6, 11; and the refusals.
+// The tests that several calls share: 4, 5 and 6, 11; and the replies.
 ghost use mathlib.Core.Path.{_≡_};
-ghost use Rattle.update.specs.Replies.{noImage, refusalOf, refusal as Replies·refusal};
+ghost use Rattle.otadata.specs.Answers.{viewed};
+ghost use Rattle.update.specs.Replies.{view, noImage, refusalOf, refusal as Replies·refusal, done};
 ghost use Rattle.update.specs.Tests.{slotTest, runningTest, acceptedSlot, examined, unconfirmed as Tests·unconfirmed};
+use crate::Completion;
 use crate::Examined;
 use crate::IMAGE_REFUSED;
 use crate::NO_SUCH_SLOT;
 use crate::Refusal;
+use crate::Reply;
 use crate::VERSION_TOO_LOW;
 use app_image::Checked as ImageChecked;
+use app_image::Facts;
 use app_image::Refusal as ImageRefusal;
 use boot_choice::Settings;
 use boot_choice::accept;
@@ -92,6 +96,17 @@ pub(crate) fn unconfirmed(settings: Settings, readings: [Reading; 2]) -> bool
         return false;
     }
     active_pending(readings)
+}
+
+// Done, with the register to burn, of an app with these facts of its image.
+pub(crate) fn completed(register: u32, facts: Facts) -> Reply
+    ensures { λ r. ⌜ viewed view r ≡ done register facts ⌝ }
+{
+    Reply::Done(Completion {
+        register,
+        length: facts.length,
+        entry: facts.entry,
+    })
 }
 
 // A refusal that is not of an image.

@@ -32,13 +32,14 @@ use Rattle.boot_choice.specs.declared.Settings.{Settings}
 use Rattle.partitions.specs.declared.App.the-variants.{OtaSlot}
 use Rattle.app_image.specs.declared.Facts.{Facts}
 use Rattle.boot_choice.specs.declared.Passing.the-variants.{Yes}
+use Rattle.boot_choice.specs.declared.Choice.the-variants.{Through}
 use Rattle.boot_choice.specs.Choice.{passing}
 use Rattle.boot.specs.declared.Reply.the-variants.{Starts}
-use Rattle.boot.specs.Boot.{marked, boot, Accepts}
+use Rattle.boot.specs.Boot.{marked, startOf, boot, Accepts}
 use Rattle.boot.proofs.Replies.{afterMarks}
 use Rattle.boot.proofs.ThroughRecords.{UsableOf, through-active}
 use Rattle.boot_laws.proofs.Changes.{left-alone, still-active}
-use Rattle.boot_laws.proofs.PowerCut.{starts-record}
+use Rattle.boot_laws.proofs.PowerCut.{starts-through}
 use Rattle.slot_records.specs.Naming.{names, activeNaming}
 use Rattle.slot_records.specs.declared.Placement.the-variants.{At}
 use Rattle.slot_records.specs.Placing.{freeSector, placement, activeSequence, Placed, PlacementLaw}
@@ -210,15 +211,14 @@ held-at list left s {k} points =
 
 -- ---- the next boot
 
--- the active record is of an app that passes, and not pending while rollback is on
-pub record Confirmed (list flash : List ℕ) (settings : Settings) (s : Slot) (state : State) : Type 0 where
+-- the active record is of an app that passes with these facts, and not pending while rollback is on
+pub record Confirmed (list flash : List ℕ) (settings : Settings) (s : Slot) (state : State) (facts : Facts) : Type 0 where
   pub accepts : Accepts list (length flash) 8192 settings
   pub not-pending : settings .rollback ≡ true → state ≡ Pending → ⊥
-  pub facts : Facts
   pub passes : passing list flash settings (OtaSlot s) ≡ Yes facts
 
 module _ (list flash left : List ℕ) (settings : Settings) (s : Slot) (size : length left ≡ 8192) (k : ℕ) (q : Sequence)
-    (points : Points list left s k q) (confirmed : Confirmed list flash settings s (points .state)) where
+    (points : Points list left s k q) (facts : Facts) (confirmed : Confirmed list flash settings s (points .state) facts) where
   k-below : k < 2
   k-below = active-below-two (readingsOf left) k (points .is-active)
 
@@ -232,12 +232,11 @@ module _ (list flash left : List ℕ) (settings : Settings) (s : Slot) (size : l
         usable = sym (ap usableVerdict (held-at list left s points)) ∙ active-usable (readingsOf left) k (points .is-active);
       }
 
-  pub starts-slot : boot list flash left settings .reply ≡ Starts (record { app = OtaSlot s; through = Sector k; register = settings .efuse })
+  pub starts-slot : boot list flash left settings .reply ≡ Starts (startOf (OtaSlot s) (Sector k) (settings .efuse) facts)
   starts-slot =
-      subst (λ (slot : Slot). boot list flash left settings .reply ≡ Starts (record { app = OtaSlot slot; through = Sector k; register = settings .efuse }))
-      (points .names)
-      (starts-record list flash left settings (subst (λ (n : ℕ). Accepts list (length flash) n settings) (sym size) (confirmed .accepts)) k q (confirmed .facts)
+      starts-through list flash left settings (subst (λ (n : ℕ). Accepts list (length flash) n settings) (sym size) (confirmed .accepts)) k s facts
       (through-active list flash settings (afterMarks settings left) k q
       (still-active settings left size k k-below q (points .state) (points .holds) (confirmed .not-pending) (points .is-active))
-      after-marks (confirmed .facts)
-      (subst (λ (slot : Slot). passing list flash settings (OtaSlot slot) ≡ Yes (confirmed .facts)) (sym (points .names)) (confirmed .passes))))
+      after-marks facts
+      (subst (λ (slot : Slot). passing list flash settings (OtaSlot slot) ≡ Yes facts) (sym (points .names)) (confirmed .passes))
+      ∙ ap (λ (slot : Slot). Through k slot facts) (points .names))

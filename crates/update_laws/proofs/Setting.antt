@@ -29,7 +29,7 @@ use Rattle.boot_choice.specs.declared.Settings.{Settings}
 use Rattle.boot_choice.specs.declared.Passing.{Passing}
 use Rattle.boot_choice.specs.declared.Passing.the-variants.{No, Yes}
 use Rattle.boot_choice.specs.Acceptance.{accepted}
-use Rattle.boot_choice.specs.Choice.{image, tooOld, held as Choice·held, passing, Passes}
+use Rattle.boot_choice.specs.Choice.{image, tooOld, held as Choice·held, passing}
 use Rattle.boot.specs.Boot.{passedTests, Accepts}
 use Rattle.slot_records.specs.Naming.{activeNaming, activePending}
 use Rattle.slot_records.specs.Placing.{placement}
@@ -40,7 +40,6 @@ use Rattle.update.specs.Tests.{slotTest, acceptedSlot, held, examined, unconfir
 use Rattle.update.specs.SetBoot.{placedAt, pointed, setBoot}
 use Rattle.otadata.proofs.Booleans.{true-is-not-false}
 use Rattle.otadata.proofs.States.{state-of-word}
-use Rattle.boot.proofs.ThroughRecords.{passed-facts}
 use Rattle.update_laws.proofs.Pointing.{listed-by}
 
 -- ---- tests 5 and 6: an app is fit exactly where it passes
@@ -102,7 +101,7 @@ module _ (list flash o : List ℕ) (settings : Settings) (s : Slot) (accepts : A
 
   -- ---- the call
 
-  module _ (passes : Passes list flash settings (OtaSlot s)) (k : ℕ) (q : Sequence) (state : State) (is-active : active (readingsOf o) ≡ Sector k)
+  module _ (facts : Facts) (passes : passing list flash settings (OtaSlot s) ≡ Yes facts) (k : ℕ) (q : Sequence) (state : State) (is-active : active (readingsOf o) ≡ Sector k)
       (holds : getD (readingsOf o) k noReading .verdict ≡ Good q state) (confirmed : settings .rollback ≡ true → state ≡ Pending → ⊥)
       (another : eqb (namesSlot (slotCount list) q .0) (s .0) ≡ false) where
     not-unconfirmed : unconfirmed settings (readingsOf o) ≡ false
@@ -113,8 +112,6 @@ module _ (list flash o : List ℕ) (settings : Settings) (s : Slot) (accepts : A
     unfolding activeNaming
     not-named = simp (is-active, holds, another)
 
-    pub sets : setBoot list flash o settings s ≡ placedAt settings o (placement (slotCount list) s (readingsOf o))
+    pub sets : setBoot list flash o settings s ≡ placedAt settings facts o (placement (slotCount list) s (readingsOf o))
     unfolding setBoot pointed
-    sets =
-        let (facts, is) = passed-facts _ passes in
-        simp (slot-accepted, passes-fit list flash settings s facts is, not-unconfirmed, slots, not-named)
+    sets = simp (slot-accepted, passes-fit list flash settings s facts passes, not-unconfirmed, slots, not-named)

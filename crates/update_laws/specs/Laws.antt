@@ -4,6 +4,7 @@ use mathlib.Core.Path.{_≡_}
 use mathlib.Core.List.{List}
 use mathlib.Core.Logic.{_⊎_}
 use lib.ListN.{replicate}
+use Rattle.otadata.specs.Answers.{Answer, Outcome}
 use Rattle.otadata.specs.declared.Slot.{Slot}
 use Rattle.otadata.specs.declared.Sequence.{Sequence}
 use Rattle.otadata.specs.declared.State.{State}
@@ -19,24 +20,27 @@ use Rattle.slot_records.specs.Placing.{placement}
 use Rattle.boot.specs.declared.Start.{Start}
 use Rattle.boot.specs.declared.Reply.the-variants.{Starts}
 use Rattle.boot.specs.Boot.{boot}
+use Rattle.boot_laws.specs.Laws.{OfImage}
 use Rattle.update.specs.declared.Refusal.{Refusal}
 use Rattle.update.specs.declared.Completion.{Completion}
+use Rattle.update.specs.declared.Reply.{Reply}
 use Rattle.update.specs.declared.Reply.the-variants.{Refused, Done}
-use Rattle.update.specs.Replies.{view, Outcome}
+use Rattle.update.specs.declared.MarkedInvalid.the-variants.{Refused as NotMarked, Done as Marked}
+use Rattle.update.specs.Replies.{view, invalidView}
 use Rattle.update.specs.SetBoot.{newState, setBoot}
 use Rattle.update.specs.Marks.{markValid, markInvalid}
 
 -- ---- refusals
 
 -- a refusal changes no byte of otadata, and the register comes back as given
-abbrev pub RefusalKeeps : List ℕ → Settings → Outcome → Type 0
-RefusalKeeps o settings out = (why : Refusal) → out .reply ≡ Refused why → (out .otadata ≡ o) × (why .register ≡ settings .efuse)
+abbrev pub RefusalKeeps : {Reply : Type 0} → (Refusal → Reply) → List ℕ → Settings → Outcome Reply → Type 0
+RefusalKeeps refused o settings out = (why : Refusal) → out .reply ≡ refused why → (out .otadata ≡ o) × (why .register ≡ settings .efuse)
 
 -- of every call
 pub record Refusals (list flash o : List ℕ) (settings : Settings) (s : Slot) : Type 0 where
-  pub set-boot : RefusalKeeps o settings (setBoot list flash o settings s)
-  pub mark-valid : RefusalKeeps o settings (markValid list flash o settings s)
-  pub mark-invalid : RefusalKeeps o settings (markInvalid list flash o settings s)
+  pub set-boot : RefusalKeeps Refused o settings (setBoot list flash o settings s)
+  pub mark-valid : RefusalKeeps Refused o settings (markValid list flash o settings s)
+  pub mark-invalid : RefusalKeeps NotMarked o settings (markInvalid list flash o settings s)
 
 unfoldable pub RefusalLaw : Type 0
 RefusalLaw = (list flash o : List ℕ) (settings : Settings) (s : Slot) → Refusals list flash o settings s
@@ -44,13 +48,13 @@ RefusalLaw = (list flash o : List ℕ) (settings : Settings) (s : Slot) → Refu
 -- ---- the number and the values of a reply
 
 -- they are those of its view
-abbrev pub Viewed : Outcome → Type 0
-Viewed out = out .answer ≡ view (out .reply)
+abbrev pub Viewed : {Reply : Type 0} → (Reply → Answer) → Outcome Reply → Type 0
+Viewed view out = out .answer ≡ view (out .reply)
 
 pub record Views (list flash o : List ℕ) (settings : Settings) (s : Slot) : Type 0 where
-  pub set-boot : Viewed (setBoot list flash o settings s)
-  pub mark-valid : Viewed (markValid list flash o settings s)
-  pub mark-invalid : Viewed (markInvalid list flash o settings s)
+  pub set-boot : Viewed view (setBoot list flash o settings s)
+  pub mark-valid : Viewed view (markValid list flash o settings s)
+  pub mark-invalid : Viewed invalidView (markInvalid list flash o settings s)
 
 unfoldable pub ViewLaw : Type 0
 ViewLaw = (list flash o : List ℕ) (settings : Settings) (s : Slot) → Views list flash o settings s
@@ -58,13 +62,24 @@ ViewLaw = (list flash o : List ℕ) (settings : Settings) (s : Slot) → Views l
 -- ---- the register
 
 -- set-boot and mark-invalid give the register as it was given: only boot and mark-valid raise it
-abbrev pub GivesRegister : Settings → Outcome → Type 0
-GivesRegister settings out = (c : Completion) → out .reply ≡ Done c → c .register ≡ settings .efuse
+pub record GivesRegister (list flash o : List ℕ) (settings : Settings) (s : Slot) : Type 0 where
+  pub set-boot : (c : Completion) → setBoot list flash o settings s .reply ≡ Done c → c .register ≡ settings .efuse
+  pub mark-invalid : (register : ℕ) → markInvalid list flash o settings s .reply ≡ Marked register → register ≡ settings .efuse
 
 unfoldable pub RegisterLaw : Type 0
-RegisterLaw =
+RegisterLaw = (list flash o : List ℕ) (settings : Settings) (s : Slot) → GivesRegister list flash o settings s
+
+-- ---- what a reply says of the image
+
+-- set-boot and mark-valid give the length and the entry address of the slot's image
+abbrev pub GivesImage : List ℕ → List ℕ → Settings → Slot → Reply → Type 0
+GivesImage list flash settings s r = (c : Completion) → r ≡ Done c → OfImage list flash settings (OtaSlot s) (c .length) (c .entry)
+
+unfoldable pub ImageLaw : Type 0
+ImageLaw =
     (list flash o : List ℕ) (settings : Settings) (s : Slot)
-    → GivesRegister settings (setBoot list flash o settings s) × GivesRegister settings (markInvalid list flash o settings s)
+    → GivesImage list flash settings s (setBoot list flash o settings s .reply)
+    × GivesImage list flash settings s (markValid list flash o settings s .reply)
 
 -- ---- after set-boot
 
@@ -96,20 +111,21 @@ SetBootLaw =
     → (let out = setBoot list flash o settings s in
     out .reply ≡ Done c → SetsBoot list o (out .otadata) settings s)
 
--- and the next boot, with the same list, flash and settings, starts that slot through that record
+-- and the next boot, with the same list, flash and settings, starts that slot through that record, with the same length and entry address
 unfoldable pub NextBootLaw : Type 0
 NextBootLaw =
     (list flash o : List ℕ) (settings : Settings) (s : Slot) (c : Completion)
     → (let out = setBoot list flash o settings s in
     out .reply ≡ Done c
     → (sets : SetsBoot list o (out .otadata) settings s)
-    × (boot list flash (out .otadata) settings .reply ≡ Starts (record { app = OtaSlot s; through = Sector (sets .sector); register = settings .efuse })))
+    × (boot list flash (out .otadata) settings .reply
+    ≡ Starts (record { app = OtaSlot s; through = Sector (sets .sector); register = settings .efuse; length = c .length; entry = c .entry })))
 
 -- ---- after mark-invalid
 
 -- the next boot, with the same list, flash and settings, starts an app: a node that gives up its app is never left with nothing
 unfoldable pub FallbackLaw : Type 0
 FallbackLaw =
-    (list flash o : List ℕ) (settings : Settings) (s : Slot) (c : Completion)
+    (list flash o : List ℕ) (settings : Settings) (s : Slot) (register : ℕ)
     → (let out = markInvalid list flash o settings s in
-    out .reply ≡ Done c → (start : Start) × (boot list flash (out .otadata) settings .reply ≡ Starts start))
+    out .reply ≡ Marked register → (start : Start) × (boot list flash (out .otadata) settings .reply ≡ Starts start))

@@ -12,6 +12,7 @@ use Rattle.otadata.specs.Records.{usableVerdict, usable, noReading, isSequence}
 use Rattle.sectors.specs.Sectors.{sectorReading, readingsOf}
 use Rattle.partitions.specs.PartitionList.{countBelow}
 use Rattle.partitions.specs.declared.App.the-variants.{OtaSlot}
+use Rattle.app_image.specs.declared.Facts.{Facts}
 use Rattle.boot_choice.specs.Choice.{Passes}
 use Rattle.boot_choice.specs.Example.{exampleList, exampleFlash, exampleSettings}
 use Rattle.boot_laws.specs.PowerCut.{otadataOf}
@@ -21,20 +22,19 @@ use Rattle.sectors.proofs.Activity.{two, only-usable}
 use Rattle.sectors.proofs.TwoSectors.{readings-at}
 use Rattle.boot_choice.proofs.Examples.{example-node}
 use Rattle.boot.proofs.Examples.{accepts}
+use Rattle.boot.proofs.ThroughRecords.{passed-facts}
 use Rattle.boot_laws.proofs.PowerCut.{otadata-size, own-sector, other-sector}
 use Rattle.boot_laws.proofs.Witnesses.{sector-with-size, sector-with-reads, blank-size, blank-verdict}
 use Rattle.worked_examples.specs.Table.{slot, Node, ActiveIs}
 use Rattle.worked_examples.specs.Witness.{holding, Witness}
 use Rattle.worked_examples.proofs.Worked.{valid-not-pending}
 
-example : (s : ℕ) → s < 2 → Node exampleList exampleFlash exampleSettings 2 s
+example : (s : ℕ) → s < 2 → (facts : Facts) × Node exampleList exampleFlash exampleSettings 2 s facts
 unfolding countBelow
 example s l =
-    record {
-      accepts = accepts;
-      slots = refl;
-      passes = two (λ (i : ℕ). Passes exampleList exampleFlash exampleSettings (OtaSlot (slot i))) (example-node .slot-0-passes) (example-node .slot-1-passes) s l;
-    }
+    let (facts, passes) = passed-facts _
+    (two (λ (i : ℕ). Passes exampleList exampleFlash exampleSettings (OtaSlot (slot i))) (example-node .slot-0-passes) (example-node .slot-1-passes) s l) in
+    (facts, record { accepts = accepts; slots = refl; passes = passes })
 
 alone : (k q : ℕ) → k < 2 → isSequence q ≡ true → ActiveIs exampleSettings (otadataOf k (holding q Valid) blankSector) k q
 alone k q l right =

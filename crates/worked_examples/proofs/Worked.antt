@@ -17,6 +17,7 @@ use Rattle.otadata.specs.Records.{stateWord, usableState, usableVerdict, usable
 use Rattle.sectors.specs.Sectors.{sectorReading, sectorAt, readingsOf}
 use Rattle.efuse.specs.Register.{width, setLowest, raised}
 use Rattle.partitions.specs.PartitionList.{firstFrom}
+use Rattle.app_image.specs.declared.Facts.{Facts}
 use Rattle.app_image.specs.Layout.{badSegment, segmentsFrom, xored}
 use Rattle.app_image.specs.Check.{lengthTest, headerTests, segmentTest, endTests, check}
 use Rattle.app_image.specs.Example.{oneSegment}
@@ -30,7 +31,6 @@ use Rattle.update.specs.Replies.{Outcome}
 use Rattle.update.specs.SetBoot.{placedAt, setBoot}
 use Rattle.sectors.proofs.Activity.{active-below-two, only-usable}
 use Rattle.sectors.proofs.TwoSectors.{readings-at}
-use Rattle.boot.proofs.ThroughRecords.{passed-facts}
 use Rattle.boot_laws.proofs.Laws.{view-law}
 use Rattle.update_laws.proofs.Pointing.{reads, other, starts-slot}
 use Rattle.update_laws.proofs.Setting.{sets}
@@ -43,48 +43,48 @@ pub record Moves (n q s : ℕ) : Type 0 where
   pub below : s < n
   pub another : eqb (namesSlot n (record { 0 = q }) .0) s ≡ false
 
-module _ (n q s : ℕ) (moves : Moves n q s) (list flash o : List ℕ) (settings : Settings) (k : ℕ) (node : Node list flash settings n s) (act : ActiveIs settings o k q) where
+module _ (n q s : ℕ) (moves : Moves n q s) (list flash o : List ℕ) (settings : Settings) (k : ℕ) (facts : Facts) (node : Node list flash settings n s facts) (act : ActiveIs settings o k q) where
   k-below : k < 2
   k-below = active-below-two (readingsOf o) k (act .is-active)
 
   at-k : getD (readingsOf o) k noReading .verdict ≡ record-of q (act .state)
   at-k = ap (λ (r : Reading). r .verdict) (readings-at k k-below o noReading) ∙ act .holds
 
-  by-placement : (p : Placement) → placement n (slot s) (readingsOf o) ≡ p → setBoot list flash o settings (slot s) ≡ placedAt settings o p
+  by-placement : (p : Placement) → placement n (slot s) (readingsOf o) ≡ p → setBoot list flash o settings (slot s) ≡ placedAt settings facts o p
   by-placement p is =
       sets list flash o settings (slot s) (subst (λ (m : ℕ). Accepts list (length flash) m settings) (sym (act .size)) (node .accepts))
       (subst (λ (m : ℕ). s < m) (sym (node .slots)) (moves .below))
-      (node .passes) k (record { 0 = q }) (act .state) (act .is-active) at-k (act .not-pending)
+      facts (node .passes) k (record { 0 = q }) (act .state) (act .is-active) at-k (act .not-pending)
       (subst (λ (m : ℕ). eqb (namesSlot m (record { 0 = q }) .0) s ≡ false) (sym (node .slots)) (moves .another))
-      ∙ ap (λ (m : ℕ). placedAt settings o (placement m (slot s) (readingsOf o))) (node .slots)
-      ∙ ap (placedAt settings o) is
+      ∙ ap (λ (m : ℕ). placedAt settings facts o (placement m (slot s) (readingsOf o))) (node .slots)
+      ∙ ap (placedAt settings facts o) is
 
 -- the new sequence is that of the definition, and a good record's
 set-holds : (n q s new : ℕ) → Moves n q s → nextSequence n (slot s) (record { 0 = q }) ≡ record { 0 = new } → leb new 4294967294 ≡ true → Holds (set n q s new)
 unfolding placement
-set-holds n q s new moves is fits list flash o settings k node act =
-    let l = k-below n q s moves list flash o settings k node act in
+set-holds n q s new moves is fits list flash o settings k facts node act =
+    let l = k-below n q s moves list flash o settings k facts node act in
     let placed : placement n (slot s) (readingsOf o) ≡ At (1 - k) (record { 0 = new }) =
-    simp (act .is-active, at-k n q s moves list flash o settings k node act, is, fits, lt-ltb s n (moves .below)) in
-    let out = by-placement n q s moves list flash o settings k node act (At (1 - k) (record { 0 = new })) placed in
+    simp (act .is-active, at-k n q s moves list flash o settings k facts node act, is, fits, lt-ltb s n (moves .below)) in
+    let out = by-placement n q s moves list flash o settings k facts node act (At (1 - k) (record { 0 = new })) placed in
     let listed = subst (λ (m : ℕ). placement m (slot s) (readingsOf o) ≡ At (1 - k) (record { 0 = new })) (sym (node .slots)) placed in
     let back : 1 - (1 - k) ≡ k = omega arith in
     record {
-      number = ap (λ (x : Outcome). x .answer .number) out;
+      answer = ap (λ (x : Outcome). x .answer) out;
       reads = ap (λ (x : Outcome). sectorReading (sectorAt (1 - k) (x .otadata))) out ∙ reads list o settings (slot s) (act .size) (1 - k) (record { 0 = new }) listed;
       active-stays = ap (λ (x : Outcome). sectorAt k (x .otadata)) out
-          ∙ subst (λ (j : ℕ). sectorAt j (placedAt settings o (At (1 - k) (record { 0 = new })) .otadata) ≡ sectorAt j o) back
+          ∙ subst (λ (j : ℕ). sectorAt j (placedAt settings facts o (At (1 - k) (record { 0 = new })) .otadata) ≡ sectorAt j o) back
           (other list o settings (slot s) (act .size) (1 - k) (record { 0 = new }) listed);
     }
 
 -- it would pass the last one
 set-refused : (n q s : ℕ) → Moves n q s → leb (nextSequence n (slot s) (record { 0 = q }) .0) 4294967294 ≡ false → Holds (setRefused n q s 7)
 unfolding placement
-set-refused n q s moves passes list flash o settings k node act =
+set-refused n q s moves passes list flash o settings k facts node act =
     let placed : placement n (slot s) (readingsOf o) ≡ Nowhere =
-    simp (act .is-active, at-k n q s moves list flash o settings k node act, passes, lt-ltb s n (moves .below)) in
-    let out = by-placement n q s moves list flash o settings k node act Nowhere placed in
-    record { same-number = ap (λ (x : Outcome). x .answer .number) out; unchanged = ap (λ (x : Outcome). x .otadata) out }
+    simp (act .is-active, at-k n q s moves list flash o settings k facts node act, passes, lt-ltb s n (moves .below)) in
+    let out = by-placement n q s moves list flash o settings k facts node act Nowhere placed in
+    record { answer = ap (λ (x : Outcome). x .answer) out; unchanged = ap (λ (x : Outcome). x .otadata) out }
 
 -- ---- boot
 
@@ -92,8 +92,7 @@ set-refused n q s moves passes list flash o settings k node act =
 boots-holds : (n q q′ : ℕ) (state state′ : State) (s : ℕ) → usableState state ≡ true → (state ≡ Pending → ⊥) → usableState state′ ≡ false
     → namesSlot n (record { 0 = q }) ≡ slot s → Holds (boots n (record-of q state) (record-of q′ state′) s)
 unfolding ViewLaw
-boots-holds n q q′ state state′ s u not-pending gone named list flash o settings k node rs =
-    let (facts, passes) = passed-facts _ (node .passes) in
+boots-holds n q q′ state state′ s u not-pending gone named list flash o settings k facts node rs =
     let own = readings-at k (rs .sector) o noReading in
     let beside = readings-at (1 - k) (omega (arith, rs .sector)) o noReading in
     let is-active = only-usable (readingsOf o) k (rs .sector)
@@ -103,7 +102,8 @@ boots-holds n q q′ state state′ s u not-pending gone named list flash o sett
     ∙ ap view
     (starts-slot list flash o settings (slot s) (rs .size) k (record { 0 = q })
     (record { state = state; is-active = is-active; holds = rs .own; names = subst (λ (m : ℕ). namesSlot m (record { 0 = q }) ≡ slot s) (sym (node .slots)) named })
-    (record { accepts = node .accepts; not-pending = λ (on : settings .rollback ≡ true). not-pending; facts = facts; passes = passes }))
+    facts
+    (record { accepts = node .accepts; not-pending = λ (on : settings .rollback ≡ true). not-pending; passes = node .passes }))
 
 -- ---- the table
 

@@ -18,12 +18,14 @@ use Rattle.efuse.specs.declared.ChipId.{ChipId}
 use Rattle.efuse.specs.Register.{width, version, raised}
 use Rattle.partitions.specs.declared.App.the-variants.{OtaSlot}
 use Rattle.partitions.specs.PartitionList.{slotCount}
+use Rattle.app_image.specs.declared.Facts.{Facts}
 use Rattle.app_image.specs.Layout.{segments, stop, checksumPlace, wholeLength, checksum}
 use Rattle.app_image.specs.Check.{check}
 use Rattle.app_image.specs.Example.{oneSegment}
 use Rattle.boot_choice.specs.declared.Settings.{Settings}
 use Rattle.boot_choice.specs.Acceptance.{otadataSize}
-use Rattle.boot_choice.specs.Choice.{Passes}
+use Rattle.boot_choice.specs.declared.Passing.the-variants.{Yes}
+use Rattle.boot_choice.specs.Choice.{passing}
 use Rattle.boot.specs.Boot.{boot, Accepts}
 use Rattle.update.specs.SetBoot.{newState, setBoot}
 
@@ -49,11 +51,11 @@ slot s = record { 0 = s }
 abbrev pub good : ℕ → State → Verdict
 good q state = Good (record { 0 = q }) state
 
--- boot accepts the node; it has n slots, and slot s passes
-pub record Node (list flash : List ℕ) (settings : Settings) (n s : ℕ) : Type 0 where
+-- boot accepts the node; it has n slots, and slot s passes, with these facts of its image
+pub record Node (list flash : List ℕ) (settings : Settings) (n s : ℕ) (facts : Facts) : Type 0 where
   pub accepts : Accepts list (length flash) otadataSize settings
   pub slots : slotCount list ≡ n
-  pub passes : Passes list flash settings (OtaSlot (slot s))
+  pub passes : passing list flash settings (OtaSlot (slot s)) ≡ Yes facts
 
 -- the active record of otadata is in sector k and has sequence q; with rollback on it isn't pending
 pub record ActiveIs (settings : Settings) (o : List ℕ) (k q : ℕ) : Type 0 where
@@ -82,28 +84,31 @@ pub data Example : Type 0 where
   -- n slots, these two records, and slot s passes: slot s through the first of them
   boots : (n : ℕ) (first second : Verdict) (s : ℕ) → Example
 
--- set-boot replies 0; the sector that was not active reads as a new record of that sequence; the active one keeps its bytes
-pub record Sets (list flash o : List ℕ) (settings : Settings) (s k new : ℕ) : Type 0 where
-  pub number : setBoot list flash o settings (slot s) .answer .number ≡ 0
+-- set-boot replies 0 with the register as given, and the length and the entry address of the slot's image; the sector that was not active
+-- reads as a new record of that sequence; the active one keeps its bytes
+pub record Sets (list flash o : List ℕ) (settings : Settings) (s : ℕ) (facts : Facts) (k new : ℕ) : Type 0 where
+  pub answer : setBoot list flash o settings (slot s) .answer ≡ gives (settings .efuse ∷ 0 ∷ 0 ∷ facts .length ∷ facts .entry ∷ [])
   pub reads : sectorReading (sectorAt (1 - k) (setBoot list flash o settings (slot s) .otadata))
       ≡ record { verdict = good new (newState settings); label = replicate 20 255 }
   pub active-stays : sectorAt k (setBoot list flash o settings (slot s) .otadata) ≡ sectorAt k o
 
--- it replies that number and changes nothing
+-- it replies that number with the register as given, zero for length and entry, and changes nothing
 pub record Refuses (list flash o : List ℕ) (settings : Settings) (s number : ℕ) : Type 0 where
-  pub same-number : setBoot list flash o settings (slot s) .answer .number ≡ number
+  pub answer : setBoot list flash o settings (slot s) .answer ≡ record { number = number; values = settings .efuse ∷ 0 ∷ 0 ∷ 0 ∷ 0 ∷ [] }
   pub unchanged : setBoot list flash o settings (slot s) .otadata ≡ o
 
 -- an example of a call holds on every node and every otadata as it says
 abbrev pub Holds : Example → Type 0
 Holds (value given said) = given ≡ said
 Holds (set n q s new) =
-    (list flash o : List ℕ) (settings : Settings) (k : ℕ) → Node list flash settings n s → ActiveIs settings o k q → Sets list flash o settings s k new
+    (list flash o : List ℕ) (settings : Settings) (k : ℕ) (facts : Facts) → Node list flash settings n s facts → ActiveIs settings o k q
+    → Sets list flash o settings s facts k new
 Holds (setRefused n q s number) =
-    (list flash o : List ℕ) (settings : Settings) (k : ℕ) → Node list flash settings n s → ActiveIs settings o k q → Refuses list flash o settings s number
+    (list flash o : List ℕ) (settings : Settings) (k : ℕ) (facts : Facts) → Node list flash settings n s facts → ActiveIs settings o k q
+    → Refuses list flash o settings s number
 Holds (boots n first second s) =
-    (list flash o : List ℕ) (settings : Settings) (k : ℕ) → Node list flash settings n s → Reads o k first second
-    → boot list flash o settings .answer ≡ gives (2 ∷ s ∷ k ∷ settings .efuse ∷ [])
+    (list flash o : List ℕ) (settings : Settings) (k : ℕ) (facts : Facts) → Node list flash settings n s facts → Reads o k first second
+    → boot list flash o settings .answer ≡ gives (2 ∷ s ∷ k ∷ settings .efuse ∷ facts .length ∷ facts .entry ∷ [])
 
 abbrev pub AllHold : List Example → Type 0
 AllHold [] = Unit

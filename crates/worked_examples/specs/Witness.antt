@@ -6,6 +6,7 @@ use mathlib.Core.List.{List}
 use Rattle.otadata.specs.declared.State.{State}
 use Rattle.otadata.specs.declared.State.the-variants.{Valid, Aborted}
 use Rattle.otadata.specs.Records.{isSequence}
+use Rattle.app_image.specs.declared.Facts.{Facts}
 use Rattle.boot_choice.specs.Example.{exampleList, exampleFlash, exampleSettings}
 use Rattle.boot_laws.specs.PowerCut.{otadataOf}
 use Rattle.boot_laws.specs.Witnesses.{sectorWith, blankSector}
@@ -17,7 +18,7 @@ holding q state = sectorWith (record { 0 = q }) state
 
 pub record Witness : Type 0 where
   -- the example node has two slots, and each passes
-  pub node : (s : ℕ) → s < 2 → Node exampleList exampleFlash exampleSettings 2 s
+  pub node : (s : ℕ) → s < 2 → (facts : Facts) × Node exampleList exampleFlash exampleSettings 2 s facts
   -- in either sector, a valid record of any good record's sequence, with a blank sector beside it
   pub active-alone : (k q : ℕ) → k < 2 → isSequence q ≡ true → ActiveIs exampleSettings (otadataOf k (holding q Valid) blankSector) k q
   -- sequences 4 valid and 5 aborted

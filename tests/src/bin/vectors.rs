@@ -20,13 +20,17 @@ impl Case<'_> {
         self.word(at) as usize
     }
 
+    fn half_at(&self, at: usize) -> u16 {
+        u16::from_le_bytes([self.0[at], self.0[at + 1]])
+    }
+
     fn half(&self) -> u16 {
-        u16::from_le_bytes([self.0[2], self.0[3]])
+        self.half_at(2)
     }
 
     fn settings(&self) -> Settings {
         let [rollback, anti_rollback] = [self.0[1] & 1, self.0[1] >> 1 & 1];
-        Settings { chip_id: self.half(), efuse: self.word(4), rollback, anti_rollback }
+        Settings { chip_id: self.half(), revision: self.half_at(128), efuse: self.word(4), rollback, anti_rollback }
     }
 }
 
@@ -146,10 +150,10 @@ fn follower(case: &Case, buffers: &Buffers, at: usize, mut otadata: Vec<u8>) -> 
 }
 
 fn reply(case: &Case, list: &[u32], flash: &[u8], otadata: &mut [u8]) -> String {
-    let mut out = [0; 4];
+    let mut out = [9; 6];
     let node = Node { list, flash: &flash[..case.size(12)], otadata };
     let number = ffi::boot(node, case.settings(), &mut out);
-    format!("{number} {} {} {} {}", out[0], out[1], out[2], out[3])
+    out.iter().fold(number.to_string(), |line, value| format!("{line} {value}"))
 }
 
 /// What a sector reads as: its record, or why there is none.

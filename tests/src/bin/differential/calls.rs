@@ -1,16 +1,32 @@
 //! Each call of the library beside the model's, on the same bytes.
 
 use crate::tally::Tally;
-use ota_tests::boot::{self, App};
+use ota_tests::boot::{self, App, Started};
 use ota_tests::ffi;
 use ota_tests::generate::{self, Drawn, NodeCase, Rule, FLASH_SHARED};
+use ota_tests::image::{self, Loadable};
+use ota_tests::partition;
 use ota_tests::record::{self, State, RECORD_SIZE};
 use ota_tests::refusal::{number_of, Refusal};
 use ota_tests::rng::Rng;
 use ota_tests::sector::{self, SECTOR_SIZE, STORES};
 use ota_tests::settings::{self, Settings};
-use ota_tests::{image, partition, update};
+use ota_tests::update::{self, Marked};
 use std::fmt::{Debug, Write};
+
+/// The ways to a reply that gives an image.
+const WITH_IMAGE: [&str; 10] = [
+    "boot: through the active record",
+    "boot: through the other record",
+    "boot: factory",
+    "boot: by the search",
+    "set_boot: named already",
+    "set_boot: sector 0 rewritten",
+    "set_boot: sector 1 rewritten",
+    "mark_valid: valid already",
+    "mark_valid: sector 0 rewritten",
+    "mark_valid: sector 1 rewritten",
+];
 
 /// What must come up besides the numbers.
 pub fn to_be_met() -> Vec<String> {
@@ -22,11 +38,18 @@ pub fn to_be_met() -> Vec<String> {
         things.extend([format!("read_sector: {reading}"), format!("read_sector: wrong size, {reading}")]);
     }
     for kind in ["32 bits", "16 bits", "16 bits, ones above"] {
-        let ways =
-            ["efuse_version", "efuse_raise: raised", "boot: by the search, register raised", "mark_valid: register raised"];
+        let ways = [
+            "efuse_version",
+            "efuse_raise: raised",
+            "boot: by the search, register raised",
+            "mark_valid: register raised",
+        ];
         things.extend(ways.map(|way| format!("{way}, {kind}")));
         things.extend(["set_boot", "mark_valid"].map(|call| format!("{call}: 6, {kind}")));
     }
+    things.extend(WITH_IMAGE.iter().flat_map(|way| ["no digest", "digest"].map(|digest| format!("{way}, {digest}"))));
+    let with_settings = ["boot", "set_boot", "mark_valid", "mark_invalid", "next_slot"];
+    things.extend(with_settings.map(|call| format!("{call}: done, and again with another revision")));
     things.extend(Drawn::all().iter().map(|drawn| format!("read_sector: {}", drawn.name())));
     things.extend(
         [
@@ -40,19 +63,11 @@ pub fn to_be_met() -> Vec<String> {
             "active: none",
             "active: a tie",
             "active: a sector of wrong size",
-            "boot: through the active record",
-            "boot: through the other record",
-            "boot: factory",
-            "boot: by the search",
             "boot: a record marked aborted",
             "boot: both records marked aborted",
             "boot: a record marked pending",
             "boot: 10 after a record was marked aborted",
-            "set_boot: named already",
             "set_boot: no active record",
-            "set_boot: sector 0 rewritten",
-            "set_boot: sector 1 rewritten",
-            "mark_valid: valid already",
             "check_image: 0, version 17 to 32",
             "check_image: 29, version 17 to 32",
             "mark_invalid: sector 0 rewritten",
@@ -107,8 +122,8 @@ impl Run {
         let sequence = generate::sequence(rng);
         let (chip_id, efuse) = (generate::chip_id(rng), generate::efuse(rng));
         let held = settings::efuse_version(chip_id, efuse);
-        let version =
-            rng.pick(&[0, 1, 2, 5, 15, 16, 17, 31, 32, 33, 64, 0x8000_0000, 0xFFFF_FFFF, held, held + 1, efuse.count_ones()]);
+        let ones = efuse.count_ones();
+        let version = rng.pick(&[0, 1, 2, 5, 15, 16, 17, 31, 32, 33, 64, 0x8000_0000, !0, held, held + 1, ones]);
         self.same("check_word", &sequence, ffi::check_word(sequence), record::check_word(sequence));
         self.same("efuse_version", &(chip_id, efuse), ffi::efuse_version(chip_id, efuse), held);
         let raised = settings::efuse_raise(chip_id, efuse, version);
@@ -311,6 +326,7 @@ impl Run {
         self.mark_invalid(&case);
         self.state_query(&case);
         self.next_slot(&case);
+        self.another_revision(&case);
         let inputs = Inputs(&case);
         self.same("node, list", &inputs, &list, &case.list.words);
         for (offset, image) in &case.images {
@@ -327,17 +343,7 @@ impl Run {
         let mut otadata = case.otadata.clone();
         let reply = boot::boot(&case.list.words, self.flash_of(case), &mut otadata, &settings);
         let number = number_of(&reply);
-        let out = match reply {
-            Ok(started) => {
-                let (kind, slot) = match started.app {
-                    App::Factory => (1, 0),
-                    App::Slot(slot) => (2, slot),
-                };
-                [kind, slot, started.sector.unwrap_or(2) as u32, started.efuse]
-            }
-            Err(_) => [0, 0, 2, settings.efuse],
-        };
-        self.same("boot", &Inputs(case), library, (number, out));
+        self.same("boot", &Inputs(case), library, (number, boot_out(&reply, &settings)));
         self.same_bytes("boot", &Inputs(case), &bytes, &otadata);
         self.tally_node("boot", case, number);
 
@@ -363,12 +369,13 @@ impl Run {
                 let kind = register_kind(settings.chip_id, settings.efuse);
                 self.tally.met(format!("boot: by the search, register raised, {kind}"));
             }
-            self.tally.met(match (started.app, started.sector) {
-                (App::Factory, _) => "boot: factory",
-                (_, None) => "boot: by the search",
-                (_, sector) if sector == sector::active(&after) => "boot: through the active record",
-                _ => "boot: through the other record",
-            });
+            let way = match (started.app, started.sector) {
+                (App::Factory, _) => "factory",
+                (_, None) => "by the search",
+                (_, sector) if sector == sector::active(&after) => "through the active record",
+                _ => "through the other record",
+            };
+            self.tally.met(format!("boot: {way}, {}", self.digest_of(case, started.app)));
         }
     }
 
@@ -379,30 +386,28 @@ impl Run {
         let mut otadata = case.otadata.clone();
         let reply = update::set_boot(&case.list.words, self.flash_of(case), &mut otadata, &settings, case.target);
         let number = number_of(&reply);
-        let out = image_refusal(&reply);
-        self.same("set_boot", &Inputs(case), library, (number, out));
+        self.same("set_boot", &Inputs(case), library, (number, set_boot_out(&reply)));
         self.same_bytes("set_boot", &Inputs(case), &bytes, &otadata);
         self.tally_with_image("set_boot", case, &reply);
-        if number == 0 {
+        if let Ok(image) = reply {
             if sector::active(&sector::readings(&case.otadata)).is_none() {
                 self.tally.met("set_boot: no active record");
             }
-            self.tally.met(match rewritten(&case.otadata, &otadata) {
-                Some(0) => "set_boot: sector 0 rewritten",
-                Some(_) => "set_boot: sector 1 rewritten",
-                None => "set_boot: named already",
-            });
-            self.boot_after_set_boot(case, bytes);
+            let way = written(&case.otadata, &otadata, "named already");
+            self.tally.met(format!("set_boot: {way}, {}", self.digest_of(case, App::Slot(case.target))));
+            self.boot_after_set_boot(case, bytes, image);
         }
     }
 
-    /// The next boot, on the bytes that a set-boot left, starts the slot that was set.
-    fn boot_after_set_boot(&self, case: &NodeCase, mut otadata: Vec<u8>) {
+    /// The next boot, on the bytes that a set-boot left, starts the slot that was set, and gives the same image.
+    fn boot_after_set_boot(&self, case: &NodeCase, mut otadata: Vec<u8>, image: Loadable) {
         let flash = &self.flash[..case.list.flash_len];
-        let mut out = [0; 4];
+        let mut out = [0; 6];
         let number =
             ffi::boot(ffi::Node { list: &case.list.words, flash, otadata: &mut otadata }, case.settings, &mut out);
-        self.same("boot after set_boot", &Inputs(case), (number, out[0], out[1]), (0, 2, case.target));
+        let [kind, slot, _, _, length, entry] = out;
+        let expected = (0, [2, case.target, image.length as u32, image.entry]);
+        self.same("boot after set_boot", &Inputs(case), (number, [kind, slot, length, entry]), expected);
     }
 
     fn mark_valid(&mut self, case: &NodeCase) {
@@ -412,16 +417,13 @@ impl Run {
         let mut otadata = case.otadata.clone();
         let reply = update::mark_valid(&case.list.words, self.flash_of(case), &mut otadata, &settings, case.slot);
         let number = number_of(&reply);
-        let [image_number, place] = image_refusal(&reply);
-        let out = [reply.unwrap_or(settings.efuse).into(), image_number, place];
-        self.same("mark_valid", &Inputs(case), library, (number, out));
+        self.same("mark_valid", &Inputs(case), library, (number, mark_valid_out(&reply, &settings)));
         self.same_bytes("mark_valid", &Inputs(case), &bytes, &otadata);
         self.tally_with_image("mark_valid", case, &reply);
-        if let Ok(register) = reply {
-            if otadata == case.otadata {
-                self.tally.met("mark_valid: valid already");
-            }
-            if register != settings.efuse {
+        if let Ok(marked) = reply {
+            let way = written(&case.otadata, &otadata, "valid already");
+            self.tally.met(format!("mark_valid: {way}, {}", self.digest_of(case, App::Slot(case.slot))));
+            if marked.efuse != settings.efuse {
                 let kind = register_kind(settings.chip_id, settings.efuse);
                 self.tally.met(format!("mark_valid: register raised, {kind}"));
             }
@@ -484,6 +486,62 @@ impl Run {
                 App::Slot(slot) if slot + 1 == case.list.n => self.tally.met("next_slot: from the last slot"),
                 _ => {}
             }
+        }
+    }
+
+    /// Nothing reads the revision: in some of the cases each call with settings is made twice, with two of them.
+    fn another_revision(&mut self, case: &NodeCase) {
+        let rng = &mut self.rng;
+        if !rng.chance(25) {
+            return;
+        }
+        let apart = generate::revision(rng).max(1);
+        let other = case.settings.revision.wrapping_add(apart);
+        let NodeCase { slot, target, running, .. } = *case;
+        self.twice("boot", case, other, |node, settings, rng| with_out(rng, |out| ffi::boot(node, settings, out)));
+        self.twice("set_boot", case, other, |node, settings, rng| {
+            with_out(rng, |out| ffi::set_boot(node, settings, target, out))
+        });
+        self.twice("mark_valid", case, other, |node, settings, rng| {
+            with_out(rng, |out| ffi::mark_valid(node, settings, slot, out))
+        });
+        self.twice("mark_invalid", case, other, |node, settings, _| {
+            (ffi::mark_invalid(node, settings, slot), [0_u32; 0])
+        });
+        self.twice("next_slot", case, other, |node, settings, rng| {
+            with_out(rng, |out| ffi::next_slot(node, settings, running, out))
+        });
+    }
+
+    /// With the case's revision and with another one, number, `out` and bytes are the same.
+    fn twice<T: Garbage, const N: usize>(
+        &mut self,
+        call: &'static str,
+        case: &NodeCase,
+        revision: u16,
+        library: impl Fn(ffi::Node, ffi::Settings, &mut Rng) -> (u32, [T; N]),
+    ) {
+        let both = [case.settings, ffi::Settings { revision, ..case.settings }];
+        let [first, second] = both.map(|settings| self.on_node(case, |node, rng| library(node, settings, rng)));
+        let name = format!("{call} with revision {revision}");
+        self.same(&name, &Inputs(case), second.0, first.0);
+        self.same_bytes(&name, &Inputs(case), &second.1, &first.1);
+        self.tally.calls += 2;
+        if first.0 .0 == 0 {
+            self.tally.met(format!("{call}: done, and again with another revision"));
+        }
+    }
+
+    /// Whether the image of an app that was accepted has a digest.
+    fn digest_of(&self, case: &NodeCase, app: App) -> &'static str {
+        let subtype = match app {
+            App::Factory => 0,
+            App::Slot(slot) => 16 + slot,
+        };
+        let entry = case.list.words.chunks(3).find(|entry| entry[0] == subtype).expect("the app is listed");
+        match self.flash[entry[1] as usize + 23] {
+            0 => "no digest",
+            _ => "digest",
         }
     }
 
@@ -555,6 +613,7 @@ fn assert_same<T: PartialEq + Debug>(seed: u64, case: u64, call: &str, inputs: &
 pub fn plain(settings: ffi::Settings) -> Settings {
     Settings {
         chip_id: settings.chip_id,
+        revision: settings.revision,
         efuse: settings.efuse,
         rollback: settings.rollback != 0,
         anti_rollback: settings.anti_rollback != 0,
@@ -570,12 +629,38 @@ fn register_kind(chip_id: u16, efuse: u32) -> &'static str {
     }
 }
 
-/// The image number and place that come with a 5, else zero.
-pub fn image_refusal<T>(reply: &Result<T, Refusal>) -> [u64; 2] {
+/// What `ota_boot` gives for the model's reply.
+pub fn boot_out(reply: &Result<Started, Refusal>, settings: &Settings) -> [u32; 6] {
+    let Ok(Started { app, sector, efuse, image }) = *reply else {
+        return [0, 0, 2, settings.efuse, 0, 0];
+    };
+    let (kind, slot) = match app {
+        App::Factory => (1, 0),
+        App::Slot(slot) => (2, slot),
+    };
+    let length = image.length.try_into().expect("an image is shorter than the flash");
+    [kind, slot, sector.unwrap_or(2) as u32, efuse, length, image.entry]
+}
+
+/// What `ota_set_boot` gives for the model's reply.
+pub fn set_boot_out(reply: &Result<Loadable, Refusal>) -> [u64; 4] {
     match reply {
-        Err(Refusal::Image(refusal)) => [refusal.number.into(), refusal.place],
-        _ => [0, 0],
+        Ok(image) => [0, 0, image.length, image.entry.into()],
+        Err(Refusal::Image(refusal)) => [refusal.number.into(), refusal.place, 0, 0],
+        Err(_) => [0; 4],
     }
+}
+
+/// What `ota_mark_valid` gives for the model's reply.
+pub fn mark_valid_out(reply: &Result<Marked, Refusal>, settings: &Settings) -> [u64; 5] {
+    let register = reply.map_or(settings.efuse, |marked| marked.efuse);
+    let [number, place, length, entry] = set_boot_out(&reply.map(|marked| marked.image));
+    [register.into(), number, place, length, entry]
+}
+
+/// Which sector was rewritten, or what it means that none was.
+fn written(before: &[u8], after: &[u8], none: &str) -> String {
+    rewritten(before, after).map_or(none.into(), |number| format!("sector {number} rewritten"))
 }
 
 /// The sector in which the bytes differ.

@@ -3,7 +3,7 @@
 //! It holds demand 3: what the sector reads as, and which app the next boot starts.
 
 use crate::calls::{hex, plain};
-use ota_tests::boot::{boot, passes, App};
+use ota_tests::boot::{boot, passes, App, Started};
 use ota_tests::ffi::{self, Node};
 use ota_tests::generate::{self, plain_node_of};
 use ota_tests::image::Facts;
@@ -16,7 +16,7 @@ use ota_tests::settings::Settings;
 /// The versions of the apps of four slots, of which the last is erased. Of more slots, the next four have the same, and so on.
 const SLOTS: [Option<u32>; 4] = [Some(3), Some(5), Some(1), None];
 
-const OFF: ffi::Settings = ffi::Settings { chip_id: 0, efuse: 0b10_0110, rollback: 0, anti_rollback: 0 };
+const OFF: ffi::Settings = ffi::Settings { chip_id: 0, revision: 301, efuse: 0b10_0110, rollback: 0, anti_rollback: 0 };
 const ROLLBACK: ffi::Settings = ffi::Settings { rollback: 1, ..OFF };
 const ANTI_ROLLBACK: ffi::Settings = ffi::Settings { anti_rollback: 1, ..ROLLBACK };
 /// On a chip with sixteen version bits, and ones above them.
@@ -255,7 +255,7 @@ impl Setup {
 
         // The next boot, on both sectors as they stand.
         let (mut after, mut model_after) = (otadata.clone(), otadata.clone());
-        let mut out = [9; 4];
+        let mut out = [9; 6];
         let node = Node { list, flash, otadata: &mut after };
         assert_eq!(ffi::boot(node, *settings, &mut out), 0, "{}", context());
         let started = boot(list, flash, &mut model_after, &self.model_settings()).unwrap();
@@ -273,12 +273,16 @@ impl Setup {
         };
         let record = marked[through].unwrap();
         let slot = record.slot(self.partitions.n());
-        assert_eq!(out, [2, slot, through as u32, settings.efuse], "{}", context());
-        assert_eq!((started.app, started.sector), (App::Slot(slot), Some(through)), "{}", context());
+        let facts = self.passing(&record).unwrap();
+        let expected = [2, slot, through as u32, settings.efuse, facts.length as u32, facts.entry];
+        assert_eq!(out, expected, "{}", context());
+        let expected =
+            Started { app: App::Slot(slot), sector: Some(through), efuse: settings.efuse, image: facts.loadable() };
+        assert_eq!(started, expected, "{}", context());
 
         // Never through a record marked invalid or aborted, nor, with anti-rollback on, below the eFuse version.
         assert!(record.usable(), "{}", context());
-        assert!(!self.model_settings().too_old(self.passing(&record).unwrap().version), "{}", context());
+        assert!(!self.model_settings().too_old(facts.version), "{}", context());
         if through == *number {
             cuts.starts_rewritten += 1;
         } else {

@@ -1,16 +1,18 @@
-//! The examples of document 01, and those of document 02 with nine slots and more, of why a sector is empty and of sixteen
-//! version bits, held on both sides: the model and the library.
+//! The examples of document 01, and those of document 02 with nine slots and more, of why a sector is empty, of sixteen version bits and
+//! of replies with the image's length and entry address, held on both sides: the model and the library.
 
-use crate::calls::{image_refusal, plain};
-use ota_tests::boot::{self, App, Started};
+use crate::calls::{boot_out, mark_valid_out, plain, set_boot_out};
+use ota_tests::boot::{self, App};
 use ota_tests::ffi::{self, Node};
-use ota_tests::generate::{plain_image, plain_node, plain_node_of, two_sectors};
+use ota_tests::generate::{plain_image, plain_loadable, plain_node, plain_node_of, two_sectors};
+use ota_tests::image::Loadable;
 use ota_tests::record::{self, State};
 use ota_tests::refusal::number_of;
 use ota_tests::{image, partition, sector, settings, update};
 use std::time::Instant;
 
-const ROLLBACK: ffi::Settings = ffi::Settings { chip_id: 0, efuse: 0, rollback: 1, anti_rollback: 0 };
+const ROLLBACK: ffi::Settings = ffi::Settings { chip_id: 0, revision: 301, efuse: 0, rollback: 1, anti_rollback: 0 };
+const ANTI: ffi::Settings = ffi::Settings { anti_rollback: 1, ..ROLLBACK };
 
 pub fn run() -> usize {
     let examples = [
@@ -29,6 +31,12 @@ pub fn run() -> usize {
         marks_by_version,
         images,
         segment_lengths,
+        boots_give_the_image,
+        set_boots_give_the_image,
+        marks_give_the_image,
+        refused_boots,
+        refused_set_boots,
+        refused_marks,
     ];
     examples.iter().for_each(|example| example());
     examples.len()
@@ -135,30 +143,72 @@ fn set_boot_sequences() {
     for (n, active, slot, expected) in cases {
         let (list, flash) = plain_node(&vec![Some(1); n], None);
         let before = two_sectors(made(active, State::Valid), None);
-        let written = |number: u32, otadata: &[u8]| match number {
-            0 => Ok(record::word_at(otadata, 4096)),
-            _ => {
-                assert_eq!(otadata, before);
-                Err(number)
+        let Loadable { length, entry } = plain_loadable(slot as usize);
+        let (reply, left) = match expected {
+            Ok(sequence) => {
+                ((0, [0, 0, length, entry.into()]), two_sectors(made(active, State::Valid), made(sequence, State::New)))
             }
+            Err(number) => ((number, [0; 4]), before.clone()),
         };
-        let (mut library, mut model) = (before.clone(), before.clone());
-        let node = Node { list: &list, flash: &flash, otadata: &mut library };
-        let number = ffi::set_boot(node, ROLLBACK, slot, &mut [9; 2]);
-        let reply = update::set_boot(&list, &flash, &mut model, &plain(ROLLBACK), slot);
-        both(written(number, &library), written(number_of(&reply), &model), expected);
+        assert_eq!(set_boot_both(&list, &flash, &before, ROLLBACK, slot, reply), left);
     }
 }
 
+/// A boot on both sides, with this number and `out`. Gives otadata as both leave it.
+fn boot_both(
+    list: &[u32],
+    flash: &[u8],
+    otadata: &[u8],
+    settings: ffi::Settings,
+    expected: (u32, [u32; 6]),
+) -> Vec<u8> {
+    let (mut library, mut model, mut out) = (otadata.to_vec(), otadata.to_vec(), [9; 6]);
+    let number = ffi::boot(Node { list, flash, otadata: &mut library }, settings, &mut out);
+    let reply = boot::boot(list, flash, &mut model, &plain(settings));
+    both((number, out), (number_of(&reply), boot_out(&reply, &plain(settings))), expected);
+    assert_eq!(library, model);
+    library
+}
+
+/// The same of a set-boot.
+fn set_boot_both(
+    list: &[u32],
+    flash: &[u8],
+    otadata: &[u8],
+    settings: ffi::Settings,
+    slot: u32,
+    expected: (u32, [u64; 4]),
+) -> Vec<u8> {
+    let (mut library, mut model, mut out) = (otadata.to_vec(), otadata.to_vec(), [9; 4]);
+    let number = ffi::set_boot(Node { list, flash, otadata: &mut library }, settings, slot, &mut out);
+    let reply = update::set_boot(list, flash, &mut model, &plain(settings), slot);
+    both((number, out), (number_of(&reply), set_boot_out(&reply)), expected);
+    assert_eq!(library, model);
+    library
+}
+
+/// The same of a mark-valid.
+fn mark_valid_both(
+    list: &[u32],
+    flash: &[u8],
+    otadata: &[u8],
+    settings: ffi::Settings,
+    slot: u32,
+    expected: (u32, [u64; 5]),
+) -> Vec<u8> {
+    let (mut library, mut model, mut out) = (otadata.to_vec(), otadata.to_vec(), [9; 5]);
+    let number = ffi::mark_valid(Node { list, flash, otadata: &mut library }, settings, slot, &mut out);
+    let reply = update::mark_valid(list, flash, &mut model, &plain(settings), slot);
+    both((number, out), (number_of(&reply), mark_valid_out(&reply, &plain(settings))), expected);
+    assert_eq!(library, model);
+    library
+}
+
 /// A boot that starts a slot, on both sides, and leaves otadata as it is.
-fn boot_both(list: &[u32], flash: &[u8], otadata: Vec<u8>, slot: u32, sector: Option<usize>) {
-    let (mut library, mut model) = (otadata.clone(), otadata.clone());
-    let mut out = [9; 4];
-    let node = Node { list, flash, otadata: &mut library };
-    assert_eq!((ffi::boot(node, ROLLBACK, &mut out), out), (0, [2, slot, sector.unwrap_or(2) as u32, 0]));
-    let started = Started { app: App::Slot(slot), sector, efuse: 0 };
-    assert_eq!(boot::boot(list, flash, &mut model, &plain(ROLLBACK)), Ok(started));
-    both(library, model, otadata);
+fn starts(list: &[u32], flash: &[u8], otadata: Vec<u8>, slot: u32, sector: Option<usize>) {
+    let Loadable { length, entry } = plain_loadable(slot as usize);
+    let out = [2, slot, sector.unwrap_or(2) as u32, 0, length as u32, entry];
+    assert_eq!(boot_both(list, flash, &otadata, ROLLBACK, (0, out)), otadata);
 }
 
 fn made(sequence: u32, state: State) -> Option<[u8; 32]> {
@@ -167,7 +217,7 @@ fn made(sequence: u32, state: State) -> Option<[u8; 32]> {
 
 fn boot_through_sequence_4() {
     let (list, flash) = plain_node(&[None, Some(1)], None);
-    boot_both(&list, &flash, two_sectors(made(4, State::Valid), made(5, State::Aborted)), 1, Some(0));
+    starts(&list, &flash, two_sectors(made(4, State::Valid), made(5, State::Aborted)), 1, Some(0));
 }
 
 /// Slot 8 of nine and slot 15 of sixteen: through a record in either sector, and found by the last search.
@@ -177,15 +227,15 @@ fn boot_of_the_last_slot() {
         let (list, flash) = plain_node(&vec![Some(1); n as usize], None);
         for sequence in [n, 2 * n, 100 * n] {
             let (lower, active) = (made(sequence - 1, State::Valid), made(sequence, State::Valid));
-            boot_both(&list, &flash, two_sectors(active, lower), last, Some(0));
-            boot_both(&list, &flash, two_sectors(lower, active), last, Some(1));
+            starts(&list, &flash, two_sectors(active, lower), last, Some(0));
+            starts(&list, &flash, two_sectors(lower, active), last, Some(1));
         }
         let mut slots = vec![None; n as usize];
         slots[last as usize] = Some(1);
         let (list, flash) = plain_node(&slots, None);
-        boot_both(&list, &flash, two_sectors(None, None), last, None);
-        boot_both(&list, &flash, two_sectors(made(1, State::Invalid), made(last, State::Aborted)), last, None);
-        boot_both(&list, &flash, two_sectors(made(1, State::Valid), made(2 * n, State::Valid)), last, Some(1));
+        starts(&list, &flash, two_sectors(None, None), last, None);
+        starts(&list, &flash, two_sectors(made(1, State::Invalid), made(last, State::Aborted)), last, None);
+        starts(&list, &flash, two_sectors(made(1, State::Valid), made(2 * n, State::Valid)), last, Some(1));
     }
 }
 
@@ -217,9 +267,9 @@ fn seventeen_slots() {
         let mut on_node = |call: fn(Node) -> u32| call(Node { list: &list, flash: &flash, otadata: &mut otadata });
         let numbers = [
             ffi::check_list(&list, flash.len(), &mut [9; 2]),
-            on_node(|node| ffi::boot(node, ROLLBACK, &mut [9; 4])),
-            on_node(|node| ffi::set_boot(node, ROLLBACK, 0, &mut [9; 2])),
-            on_node(|node| ffi::mark_valid(node, ROLLBACK, 16, &mut [9; 3])),
+            on_node(|node| ffi::boot(node, ROLLBACK, &mut [9; 6])),
+            on_node(|node| ffi::set_boot(node, ROLLBACK, 0, &mut [9; 4])),
+            on_node(|node| ffi::mark_valid(node, ROLLBACK, 16, &mut [9; 5])),
             on_node(|node| ffi::mark_invalid(node, ROLLBACK, 16)),
             on_node(|node| ffi::state_query(node, 16, &mut [9])),
             on_node(|node| ffi::next_slot(node, ROLLBACK, 16, &mut [9])),
@@ -320,7 +370,7 @@ const REGISTERS: [(u16, u32, [Result<u32, u32>; 3]); 12] = [
 /// Calls with each chip and register, with anti-rollback, and each of versions 16, 17, 32 and 33.
 fn by_version(call: impl Fn(ffi::Settings, u32, Result<u32, u32>)) {
     for (chip_id, efuse, raised) in REGISTERS {
-        let settings = ffi::Settings { chip_id, efuse, anti_rollback: 1, ..ROLLBACK };
+        let settings = ffi::Settings { chip_id, efuse, ..ANTI };
         for (version, raised) in [16, 17, 32].into_iter().zip(raised) {
             call(settings, version, raised);
         }
@@ -337,21 +387,11 @@ fn boots_by_version() {
             [(made(2, State::Valid), 0, kept), (made(1, State::Invalid), 2, kept), (None, 2, raised)]
         {
             let otadata = two_sectors(record, None);
-            let (mut library, mut model) = (otadata.clone(), otadata.clone());
-            let mut out = [9; 4];
-            let node = Node { list: &list, flash: &flash, otadata: &mut library };
-            let number = ffi::boot(node, settings, &mut out);
-            let reply = boot::boot(&list, &flash, &mut model, &plain(settings));
-            let answer = match reply {
-                Ok(Started { app: App::Slot(slot), sector, efuse }) => [2, slot, sector.unwrap_or(2) as u32, efuse],
-                _ => [0, 0, 2, settings.efuse],
-            };
             let expected = match register {
-                Ok(register) => (0, [2, 1, sector, register]),
-                Err(_) => (10, [0, 0, 2, settings.efuse]),
+                Ok(register) => (0, [2, 1, sector, register, LENGTHS[1], ENTRIES[1]]),
+                Err(_) => (10, [0, 0, 2, settings.efuse, 0, 0]),
             };
-            both((number, out), (number_of(&reply), answer), expected);
-            both(library, model, otadata);
+            assert_eq!(boot_both(&list, &flash, &otadata, settings, expected), otadata);
         }
     });
 }
@@ -362,21 +402,14 @@ fn marks_by_version() {
     by_version(|settings, version, raised| {
         let (list, flash) = plain_node_of(settings.chip_id, &[None, Some(version)], None);
         let before = two_sectors(made(2, State::Pending), None);
-        let (mut library, mut model) = (before.clone(), before.clone());
-        let mut out = [9; 3];
-        let node = Node { list: &list, flash: &flash, otadata: &mut library };
-        let number = ffi::mark_valid(node, settings, 1, &mut out);
-        let reply = update::mark_valid(&list, &flash, &mut model, &plain(settings), 1);
         let expected = match raised {
-            Ok(register) => (0, [register.into(), 0, 0]),
-            TOO_HIGH => (5, [settings.efuse.into(), 29, 36]),
-            Err(number) => (number, [settings.efuse.into(), 0, 0]),
+            Ok(register) => (0, [register.into(), 0, 0, LENGTHS[1].into(), ENTRIES[1].into()]),
+            TOO_HIGH => (5, [settings.efuse.into(), 29, 36, 0, 0]),
+            Err(number) => (number, [settings.efuse.into(), 0, 0, 0, 0]),
         };
-        let [image_number, place] = image_refusal(&reply);
-        let answer = [reply.unwrap_or(settings.efuse).into(), image_number, place];
-        both((number, out), (number_of(&reply), answer), expected);
         let state = if raised.is_ok() { State::Valid } else { State::Pending };
-        both(library, model, two_sectors(made(2, state), None));
+        let left = mark_valid_both(&list, &flash, &before, settings, 1, expected);
+        assert_eq!(left, two_sectors(made(2, state), None));
     });
 }
 
@@ -415,5 +448,151 @@ fn segment_lengths() {
         let mut image = plain_image(0, 1, 256, false);
         image[28..32].copy_from_slice(&length.to_le_bytes());
         check_both(&image, expected);
+    }
+}
+
+/// The whole lengths and the entry addresses of the images of a plain node: slots 0 to 2, and factory after them. Those of slot 1 and of
+/// factory have a digest.
+const LENGTHS: [u32; 4] = [304, 352, 336, 384];
+const ENTRIES: [u32; 4] = [0x4008_0000, 0x410A_0304, 0x420C_0608, 0x430E_090C];
+
+fn valid(sequence: u32) -> Option<[u8; 32]> {
+    made(sequence, State::Valid)
+}
+
+/// Through a record in either sector, the active or the other one; by factory; by the last search.
+fn boots_give_the_image() {
+    let with_factory = plain_node(&[Some(1), Some(1), None], Some(1));
+    let without = plain_node(&[None, Some(3), Some(3)], None);
+    let failed = made(2, State::Aborted);
+    for ((list, flash), first, second, settings, [kind, slot, sector, register], place) in [
+        (&with_factory, valid(2), valid(1), ROLLBACK, [2, 1, 0, 0], 1),
+        (&with_factory, valid(1), valid(2), ROLLBACK, [2, 1, 1, 0], 1),
+        (&with_factory, valid(4), valid(2), ROLLBACK, [2, 0, 0, 0], 0),
+        (&with_factory, valid(3), valid(1), ROLLBACK, [2, 0, 1, 0], 0),
+        (&with_factory, valid(2), valid(3), ROLLBACK, [2, 1, 0, 0], 1),
+        (&with_factory, None, None, ROLLBACK, [1, 0, 2, 0], 3),
+        (&with_factory, valid(3), None, ROLLBACK, [1, 0, 2, 0], 3),
+        (&with_factory, failed, made(1, State::Invalid), ROLLBACK, [1, 0, 2, 0], 3),
+        (&without, None, None, ROLLBACK, [2, 1, 2, 0], 1),
+        (&without, None, None, ANTI, [2, 1, 2, 0b111], 1),
+        (&without, failed, None, ANTI, [2, 2, 2, 0], 2),
+        (&without, valid(1), None, ANTI, [2, 1, 2, 0], 1),
+    ] {
+        let otadata = two_sectors(first, second);
+        let out = [kind, slot, sector, register, LENGTHS[place], ENTRIES[place]];
+        assert_eq!(boot_both(list, flash, &otadata, settings, (0, out)), otadata);
+    }
+}
+
+/// Where it writes, and where the active record names the slot already.
+fn set_boots_give_the_image() {
+    let (list, flash) = plain_node(&[Some(1), Some(1), Some(1)], Some(1));
+    let new = |sequence| made(sequence, State::New);
+    for (before, slot, after) in [
+        ([None, None], 0, [new(1), None]),
+        ([valid(1), None], 1, [valid(1), new(2)]),
+        ([None, valid(1)], 2, [new(3), valid(1)]),
+        ([valid(5), valid(4)], 0, [valid(5), new(7)]),
+        ([valid(4), None], 0, [valid(4), None]),
+        ([valid(1), valid(2)], 1, [valid(1), valid(2)]),
+        ([valid(3), valid(2)], 2, [valid(3), valid(2)]),
+    ] {
+        let out = [0, 0, LENGTHS[slot].into(), ENTRIES[slot].into()];
+        let [before, after] = [before, after].map(|[first, second]| two_sectors(first, second));
+        assert_eq!(set_boot_both(&list, &flash, &before, ROLLBACK, slot as u32, (0, out)), after);
+    }
+}
+
+/// Where it writes, and where the record was valid.
+fn marks_give_the_image() {
+    let (list, flash) = plain_node(&[Some(1), Some(2), Some(3)], None);
+    for (record, slot, raised) in [
+        (made(1, State::New), 0, 0b001),
+        (made(2, State::Pending), 1, 0b011),
+        (made(3, State::Undefined), 2, 0b111),
+        (valid(4), 0, 0b001),
+        (valid(5), 1, 0b011),
+        (valid(6), 2, 0b111),
+    ] {
+        let marked = valid(record::word_at(&record.unwrap(), 0));
+        for (settings, register) in [(ROLLBACK, 0), (ANTI, raised)] {
+            let out = [register, 0, 0, LENGTHS[slot].into(), ENTRIES[slot].into()];
+            let mark = |otadata: Vec<u8>| mark_valid_both(&list, &flash, &otadata, settings, slot as u32, (0, out));
+            assert_eq!(mark(two_sectors(record, None)), two_sectors(marked, None));
+            assert_eq!(mark(two_sectors(None, record)), two_sectors(None, marked));
+        }
+    }
+}
+
+/// Three slots, and the image in slot 2 has a wrong checksum.
+fn damaged_node() -> (Vec<u32>, Vec<u8>) {
+    let (list, mut flash) = plain_node(&[Some(3), Some(3), Some(3)], None);
+    flash[2 * 0x1_0000 + 335] ^= 1;
+    (list, flash)
+}
+
+const WITHOUT_ROLLBACK: ffi::Settings = ffi::Settings { rollback: 0, ..ANTI };
+/// The eFuse version is above that of all apps.
+const BURNED: ffi::Settings = ffi::Settings { efuse: 0b1111, ..ANTI };
+
+/// Each refusal gives zero for length and entry address; 10 keeps the aborted mark.
+fn refused_boots() {
+    let (list, flash) = damaged_node();
+    let (with_factory, _) = plain_node(&[Some(3), Some(3)], Some(3));
+    let otadata = two_sectors(valid(1), made(2, State::Pending));
+    let aborted = two_sectors(valid(1), made(2, State::Aborted));
+    for (number, list, length, settings) in [
+        (1, &list[..8], 8192, ROLLBACK),
+        (2, &list, 8191, ROLLBACK),
+        (3, &list, 8192, WITHOUT_ROLLBACK),
+        (3, &with_factory, 8192, ANTI),
+        (10, &list, 8192, BURNED),
+    ] {
+        let out = [0, 0, 2, settings.efuse, 0, 0];
+        let left = boot_both(list, &flash, &otadata[..length], settings, (number, out));
+        assert_eq!(left, if number == 10 { &aborted } else { &otadata }[..length]);
+    }
+}
+
+/// Each refusal gives zero for length and entry address, also where the image was accepted before it.
+fn refused_set_boots() {
+    let (list, flash) = damaged_node();
+    let otadata = two_sectors(valid(1), None);
+    let pending = two_sectors(made(1, State::Pending), None);
+    let highest = two_sectors(valid(4_294_967_294), None);
+    for (number, list, otadata, settings, slot, image) in [
+        (1, &list[..8], &otadata[..], ROLLBACK, 1, [0, 0]),
+        (2, &list, &otadata[..8191], ROLLBACK, 1, [0, 0]),
+        (3, &list, &otadata, WITHOUT_ROLLBACK, 1, [0, 0]),
+        (4, &list, &otadata, ROLLBACK, 3, [0, 0]),
+        (5, &list, &otadata, ROLLBACK, 2, [28, 335]),
+        (6, &list, &otadata, BURNED, 1, [0, 0]),
+        (6, &list, &otadata, BURNED, 0, [0, 0]),
+        (11, &list, &pending, ROLLBACK, 1, [0, 0]),
+        (11, &list, &pending, ROLLBACK, 0, [0, 0]),
+        (7, &list, &highest, ROLLBACK, 0, [0, 0]),
+    ] {
+        let out = [image[0], image[1], 0, 0];
+        assert_eq!(set_boot_both(list, &flash, otadata, settings, slot, (number, out)), otadata);
+    }
+}
+
+/// The same, and the register comes back.
+fn refused_marks() {
+    let (list, flash) = damaged_node();
+    let otadata = two_sectors(made(2, State::Pending), None);
+    let damaged = two_sectors(made(3, State::Pending), None);
+    for (number, list, otadata, settings, slot, image) in [
+        (1, &list[..8], &otadata[..], ROLLBACK, 1, [0, 0]),
+        (2, &list, &otadata[..8191], ROLLBACK, 1, [0, 0]),
+        (3, &list, &otadata, WITHOUT_ROLLBACK, 1, [0, 0]),
+        (4, &list, &otadata, ROLLBACK, 3, [0, 0]),
+        (8, &list, &otadata, ROLLBACK, 0, [0, 0]),
+        (5, &list, &damaged, ROLLBACK, 2, [28, 335]),
+        (6, &list, &otadata, BURNED, 1, [0, 0]),
+    ] {
+        let out = [settings.efuse.into(), image[0], image[1], 0, 0];
+        assert_eq!(mark_valid_both(list, &flash, otadata, settings, slot, (number, out)), otadata);
     }
 }

@@ -11,14 +11,23 @@ enum-told c = search needs
 enum-known-choice : tie.Need-enum-known-choice
 enum-known-choice c = search needs
 
-enum-told-2 : tie.Need-enum-told-2
-enum-told-2 c = search needs
+start-of-requires : tie.Need-start-of-requires
+start-of-requires c κs = search needs
 
 enum-known-choice-2 : tie.Need-enum-known-choice-2
 enum-known-choice-2 c = search needs
 
+start-of-requires-2 : tie.Need-start-of-requires-2
+start-of-requires-2 c κs = search needs
+
+enum-known-choice-3 : tie.Need-enum-known-choice-3
+enum-known-choice-3 c = search needs
+
 register-found-requires : tie.Need-register-found-requires
 register-found-requires c κs = search needs
+
+start-of-requires-3 : tie.Need-start-of-requires-3
+start-of-requires-3 c κs = search needs
 
 returns : tie.Need-returns
 returns c = search nothing-starts
@@ -38,9 +47,12 @@ reply-to-spec =
     (tie.spec
     enum-told
     enum-known-choice
-    enum-told-2
+    start-of-requires
     enum-known-choice-2
+    start-of-requires-2
+    enum-known-choice-3
     register-found-requires
+    start-of-requires-3
     returns
     returns-2
     returns-3

@@ -1,7 +1,7 @@
 -- `c_api::node::ota_boot` meets its contract.
 -- Assumes nothing.
 use borrow.Author.Needs.{needs}
-use Rattle.c_api.proofs.Starts.{one-of-two-sectors, boot-refused, boot-starts}
+use Rattle.c_api.proofs.Starts.{one-of-two-sectors, length-fits, boot-refused, boot-starts}
 use Rattle.c_api.proofs.node.ota_boot.Statement.{statement}
 use Rattle.c_api.proofs.node.ota_boot.Tie as tie
 
@@ -18,7 +18,7 @@ enum-known-reply-2 : tie.Need-enum-known-reply-2
 enum-known-reply-2 c = search needs
 
 started-requires : tie.Need-started-requires
-started-requires c κs = search one-of-two-sectors
+started-requires c κs = search (one-of-two-sectors, length-fits)
 
 same-length : tie.Need-same-length
 same-length c = search needs

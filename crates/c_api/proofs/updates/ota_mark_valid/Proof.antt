@@ -14,17 +14,20 @@ mark-valid-requires c κs = search needs
 enum-known-reply : tie.Need-enum-known-reply
 enum-known-reply c = search needs
 
-cast-t18 : tie.Need-cast-t18
-cast-t18 c = search needs
+cast-t20 : tie.Need-cast-t20
+cast-t20 c = search needs
 
-cast-t19 : tie.Need-cast-t19
-cast-t19 c = search needs
+cast-t21 : tie.Need-cast-t21
+cast-t21 c = search needs
 
 enum-known-reply-2 : tie.Need-enum-known-reply-2
 enum-known-reply-2 c = search needs
 
-cast-t21 : tie.Need-cast-t21
-cast-t21 c = search needs
+cast-t23 : tie.Need-cast-t23
+cast-t23 c = search needs
+
+cast-t25 : tie.Need-cast-t25
+cast-t25 c = search needs
 
 same-length : tie.Need-same-length
 same-length c = search needs
@@ -45,10 +48,11 @@ ota-mark-valid-spec =
     settings-of-requires
     mark-valid-requires
     enum-known-reply
-    cast-t18
-    cast-t19
-    enum-known-reply-2
+    cast-t20
     cast-t21
+    enum-known-reply-2
+    cast-t23
+    cast-t25
     same-length
     returns
     same-length-2

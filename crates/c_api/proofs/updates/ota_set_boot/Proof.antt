@@ -14,11 +14,14 @@ set-boot-requires c κs = search needs
 enum-known-reply : tie.Need-enum-known-reply
 enum-known-reply c = search needs
 
-cast-t17 : tie.Need-cast-t17
-cast-t17 c = search needs
+cast-t20 : tie.Need-cast-t20
+cast-t20 c = search needs
 
-enum-told : tie.Need-enum-told
-enum-told c = search needs
+enum-known-reply-2 : tie.Need-enum-known-reply-2
+enum-known-reply-2 c = search needs
+
+cast-t23 : tie.Need-cast-t23
+cast-t23 c = search needs
 
 same-length : tie.Need-same-length
 same-length c = search needs
@@ -39,8 +42,9 @@ ota-set-boot-spec =
     settings-of-requires
     set-boot-requires
     enum-known-reply
-    cast-t17
-    enum-told
+    cast-t20
+    enum-known-reply-2
+    cast-t23
     same-length
     returns
     same-length-2

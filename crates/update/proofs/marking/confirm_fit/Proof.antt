@@ -18,6 +18,9 @@ confirm-requires c κs = search needs
 register-raised-requires : tie.Need-register-raised-requires
 register-raised-requires c κs = search needs
 
+completed-requires : tie.Need-completed-requires
+completed-requires c κs = search needs
+
 returns : tie.Need-returns
 returns c = search image-refused
 
@@ -35,6 +38,7 @@ confirm-fit-spec =
     enum-known-tested-2
     confirm-requires
     register-raised-requires
+    completed-requires
     returns
     same-length
     returns-2)

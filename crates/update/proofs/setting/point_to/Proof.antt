@@ -26,8 +26,8 @@ active-naming-requires c κs = search needs
 enum-told : tie.Need-enum-told
 enum-told c = search needs
 
-unchanged-requires : tie.Need-unchanged-requires
-unchanged-requires c κs = search needs
+completed-requires : tie.Need-completed-requires
+completed-requires c κs = search needs
 
 enum-told-2 : tie.Need-enum-told-2
 enum-told-2 c = search needs
@@ -61,7 +61,7 @@ point-to-spec =
     returns
     active-naming-requires
     enum-told
-    unchanged-requires
+    completed-requires
     enum-told-2
     place-new-requires
     write-new-requires

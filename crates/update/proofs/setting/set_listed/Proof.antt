@@ -11,8 +11,8 @@ examine-requires c κs = search needs
 enum-known-tested : tie.Need-enum-known-tested
 enum-known-tested c = search needs
 
-enum-told : tie.Need-enum-told
-enum-told c = search needs
+enum-known-tested-2 : tie.Need-enum-known-tested-2
+enum-known-tested-2 c = search needs
 
 point-to-requires : tie.Need-point-to-requires
 point-to-requires c κs = search needs
@@ -32,7 +32,7 @@ set-listed-spec =
     (tie.spec
     examine-requires
     enum-known-tested
-    enum-told
+    enum-known-tested-2
     point-to-requires
     returns
     same-length

@@ -23,8 +23,8 @@ slice-aggregate-rewrite-at c = search needs
 rewrite-at-requires : tie.Need-rewrite-at-requires
 rewrite-at-requires c κs = search needs
 
-unchanged-requires : tie.Need-unchanged-requires
-unchanged-requires c κs = search needs
+completed-requires : tie.Need-completed-requires
+completed-requires c κs = search needs
 
 returns : tie.Need-returns
 returns c = search too-high
@@ -45,7 +45,7 @@ write-new-spec =
     new-record-requires
     slice-aggregate-rewrite-at
     rewrite-at-requires
-    unchanged-requires
+    completed-requires
     returns
     same-length
     returns-2)
