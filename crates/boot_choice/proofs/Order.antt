@@ -1,12 +1,12 @@
--- The order of the tries, as the code goes through them, and a list that is refused, of which nothing is chosen.
+-- The order of the tries, as the code goes through them; choices whose tries agree; and a list that is refused, of which nothing is chosen.
 -- Assumes nothing.
-use Prim.Native.Nat.{ℕ, zero, suc, _+_}
-use mathlib.Core.Path.{_≡_, _∙_, refl, sym, ap}
+use Prim.Native.Nat.{ℕ, zero, suc, _+_, _-_}
+use mathlib.Core.Path.{_≡_, _∙_, refl, sym, ap, ap₂}
 use mathlib.Core.Bool.{Bool, true, false, cond}
 use mathlib.Core.List.{List, []}
 use native.Mathlib.Omega.{arith}
 use lib.Dec.{eqb}
-use lib.ListN.{length}
+use lib.ListN.{length, getD}
 use Rattle.otadata.specs.Answers.{Answer, Answered, viewed}
 use Rattle.otadata.proofs.Answers.{reply-of}
 use Rattle.otadata.proofs.Verdicts.{not-good-has, by-verdict}
@@ -15,8 +15,8 @@ use Rattle.otadata.specs.declared.Verdict.{Verdict}
 use Rattle.otadata.specs.declared.Reading.{Reading}
 use Rattle.sectors.specs.declared.Holder.{Holder}
 use Rattle.sectors.specs.declared.Holder.the-variants.{None, Sector}
-use Rattle.otadata.specs.Records.{usable}
-use Rattle.sectors.specs.Sectors.{Part}
+use Rattle.otadata.specs.Records.{usable, noReading}
+use Rattle.sectors.specs.Sectors.{Part, active}
 use Rattle.partitions.specs.declared.App.{App}
 use Rattle.partitions.specs.declared.Listing.{Listing}
 use Rattle.partitions.specs.declared.Checked.{Checked}
@@ -28,7 +28,7 @@ use Rattle.boot_choice.specs.declared.Settings.{Settings}
 use Rattle.boot_choice.specs.declared.Passing.the-variants.{No}
 use Rattle.boot_choice.specs.declared.Choice.{Choice}
 use Rattle.boot_choice.specs.declared.Choice.the-variants.{Nothing}
-use Rattle.boot_choice.specs.Choice.{image, passing, chosen, throughVerdict, throughRecord, throughHolder, throughRecords, factory, barred, candidate, searchFrom, search, choice}
+use Rattle.boot_choice.specs.Choice.{image, passing, chosen, orElse, throughVerdict, throughRecord, throughHolder, throughRecords, factory, barred, candidate, searchFrom, search, choice}
 
 -- ---- what an accepted list holds
 
@@ -51,6 +51,28 @@ module _ (list : List ℕ) (capacity : ℕ) (c : Checked) (found : viewed view c
   pub listed-factory : listing .factory ≡ eqb (timesListed list factorySubtype) 1
   unfolding checked
   listed-factory = ap (λ (l : Listing). l .factory) (sym (same-listing (right list capacity) _ _ _ listing is-accepted))
+
+-- ---- two choices, of settings and readings by which each try comes to the same
+
+module _ (list flash : List ℕ) (settings settings′ : Settings) (rs rs′ : List Reading)
+    (same-active : active rs ≡ active rs′)
+    (same-record : (k : ℕ) → throughRecord list flash settings k (getD rs k noReading) ≡ throughRecord list flash settings′ k (getD rs′ k noReading))
+    (same-factory : factory list flash settings ≡ factory list flash settings′)
+    (same-candidate : (s : Slot) → candidate list flash settings rs s ≡ candidate list flash settings′ rs′ s) where
+  same-holder : (h : Holder) → throughHolder list flash settings rs h ≡ throughHolder list flash settings′ rs′ h
+  same-holder None = refl
+  same-holder (Sector k) = ap₂ orElse (same-record k) (same-record (1 - k))
+
+  same-search : (s k : ℕ) → searchFrom list flash settings rs s k ≡ searchFrom list flash settings′ rs′ s k
+  unfolding searchFrom
+  same-search s zero = refl
+  same-search s (suc k) = simp (same-candidate (record { 0 = s }), same-search (s + 1) k)
+
+  pub same-choice : choice list flash settings rs ≡ choice list flash settings′ rs′
+  unfolding choice throughRecords
+  same-choice =
+      ap₂ orElse (ap (throughHolder list flash settings rs) same-active ∙ same-holder (active rs′))
+      (ap₂ orElse same-factory (same-search 0 (slotCount list)))
 
 -- ---- a list that is refused
 

@@ -1,7 +1,7 @@
 -- With rollback off new and pending count as undefined: the choice and the reply are the same.
 -- Assumes nothing.
-use Prim.Native.Nat.{ℕ, zero, suc, _+_, _-_}
-use mathlib.Core.Path.{_≡_, _∙_, refl, sym, ap, ap₂}
+use Prim.Native.Nat.{ℕ}
+use mathlib.Core.Path.{_≡_, _∙_, refl, sym, ap}
 use mathlib.Core.List.{List, map}
 use lib.ListN.{getD, List·getD-map}
 use Rattle.otadata.specs.declared.Slot.{Slot}
@@ -11,16 +11,14 @@ use Rattle.otadata.specs.declared.Sequence.{Sequence}
 use Rattle.otadata.specs.declared.Verdict.{Verdict}
 use Rattle.otadata.specs.declared.Verdict.the-variants.{Good}
 use Rattle.otadata.specs.declared.Reading.{Reading}
-use Rattle.sectors.specs.declared.Holder.{Holder}
-use Rattle.sectors.specs.declared.Holder.the-variants.{None, Sector}
 use Rattle.otadata.specs.Records.{noReading, goodVerdict, usableState, usableVerdict, sequenceIn}
 use Rattle.otadata.proofs.Verdicts.{not-good-has, by-verdict}
 use Rattle.sectors.specs.Sectors.{active, readingsOf}
-use Rattle.partitions.specs.PartitionList.{slotCount}
 use Rattle.boot_choice.specs.declared.Settings.{Settings}
 use Rattle.boot_choice.specs.declared.Choice.{Choice}
 use Rattle.boot_choice.specs.declared.Choice.the-variants.{Nothing, Through, Factory, Found}
-use Rattle.boot_choice.specs.Choice.{orElse, throughVerdict, throughRecord, throughHolder, throughRecords, verdictBars, barred, candidate, searchFrom, choice}
+use Rattle.boot_choice.specs.Choice.{throughVerdict, throughRecord, verdictBars, barred, candidate, choice}
+use Rattle.boot_choice.proofs.Order.{same-choice}
 use Rattle.boot.specs.Boot.{anyGood, registerAfter, replyTo}
 use Rattle.boot_laws.specs.Laws.{countedState, countedVerdict, counted, WithoutRollback}
 use Rattle.boot_laws.proofs.Changes.{no-marks}
@@ -70,26 +68,12 @@ module _ (list flash : List ℕ) (settings : Settings) (rs : List Reading) where
   unfolding throughRecord
   same-record k = simp (at, usable-verdict, same-verdict)
 
-  same-holder : (h : Holder) → throughHolder list flash settings (map counted rs) h ≡ throughHolder list flash settings rs h
-  same-holder None = refl
-  same-holder (Sector k) = ap₂ orElse (same-record k) (same-record (1 - k))
-
-  same-records : throughRecords list flash settings (map counted rs) ≡ throughRecords list flash settings rs
-  unfolding throughRecords
-  same-records = ap (throughHolder list flash settings (map counted rs)) same-active ∙ same-holder (active rs)
-
   same-candidate : (slot : Slot) → candidate list flash settings (map counted rs) slot ≡ candidate list flash settings rs slot
   unfolding candidate barred
   same-candidate slot = simp (at, same-bars)
 
-  same-search : (slot k : ℕ) → searchFrom list flash settings (map counted rs) slot k ≡ searchFrom list flash settings rs slot k
-  unfolding searchFrom
-  same-search slot zero = refl
-  same-search slot (suc k) = simp (same-candidate (record { 0 = slot }), same-search (slot + 1) k)
-
-  same-choice : choice list flash settings (map counted rs) ≡ choice list flash settings rs
-  unfolding choice
-  same-choice = simp (same-records, same-search 0 (slotCount list))
+  counted-choice : choice list flash settings (map counted rs) ≡ choice list flash settings rs
+  counted-choice = same-choice list flash settings settings (map counted rs) rs same-active same-record refl same-candidate
 
   same-any : anyGood (map counted rs) ≡ anyGood rs
   unfolding anyGood
@@ -108,4 +92,4 @@ without-rollback list flash o settings off accepts =
     let rs = readingsOf o in
     replies list flash o settings accepts
     ∙ ap (λ (x : List ℕ). replyTo settings (readingsOf x) (choice list flash settings (readingsOf x)) .reply) (no-marks settings o off)
-    ∙ sym (same-reply list flash settings rs (choice list flash settings (map counted rs)) ∙ ap (λ (c : Choice). replyTo settings rs c .reply) (same-choice list flash settings rs))
+    ∙ sym (same-reply list flash settings rs (choice list flash settings (map counted rs)) ∙ ap (λ (c : Choice). replyTo settings rs c .reply) (counted-choice list flash settings rs))

@@ -52,8 +52,8 @@ pub extern "C" fn ota_set_boot(
             *out = [image.number as u64, image.place as u64, 0, 0];
             refusal.number
         }
-        Reply::Done(completion) => {
-            *out = [0, 0, completion.length as u64, completion.entry as u64];
+        Reply::Done(done) => {
+            *out = [0, 0, done.length as u64, done.entry as u64];
             0
         }
     }
@@ -86,23 +86,13 @@ pub extern "C" fn ota_mark_valid(
     match reply {
         Reply::Refused(refusal) => {
             let image = refusal.image;
-            *out = [
-                refusal.register as u64,
-                image.number as u64,
-                image.place as u64,
-                0,
-                0,
-            ];
+            let register = refusal.register as u64;
+            *out = [register, image.number as u64, image.place as u64, 0, 0];
             refusal.number
         }
-        Reply::Done(completion) => {
-            *out = [
-                completion.register as u64,
-                0,
-                0,
-                completion.length as u64,
-                completion.entry as u64,
-            ];
+        Reply::Done(done) => {
+            let register = done.register as u64;
+            *out = [register, 0, 0, done.length as u64, done.entry as u64];
             0
         }
     }

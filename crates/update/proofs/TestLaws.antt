@@ -8,7 +8,7 @@ use native.Mathlib.Omega.{arith}
 use lib.Dec.{ltb}
 use borrow.Author.Tests.{lt-ltb, le-ltb, ltb-true, not-true, not-false}
 use denote.Ref.{RefT, now}
-use Rattle.otadata.specs.Answers.{Answered, viewed, Outcome as Answers·Outcome, outcome}
+use Rattle.otadata.specs.Answers.{Answer, Answered, viewed, Outcome as Answers·Outcome, outcome}
 use Rattle.otadata.specs.declared.Slot.{Slot}
 use Rattle.otadata.specs.declared.Reading.{Reading}
 use Rattle.sectors.specs.declared.Holder.{Holder}
@@ -36,7 +36,7 @@ use Rattle.update.specs.declared.Reply.the-variants.{Refused}
 use Rattle.update.specs.declared.MarkedInvalid.the-variants.{Refused as NotMarked}
 use Rattle.update.specs.declared.Examined.{Examined}
 use Rattle.update.specs.declared.Examined.the-variants.{Unfit, Fit}
-use Rattle.update.specs.Replies.{view, invalidView, noImage, refusalOf, refusal, imageRefusal, refused, Outcome, notMarked, InvalidOutcome}
+use Rattle.update.specs.Replies.{view, invalidView, noImage, refusalOf, refusal, imageRefusal, refused, Outcome, notMarked}
 use Rattle.update.specs.Tests.{slotTest, runningTest, acceptedSlot, examined, unconfirmed, afterTests, afterImage, afterNaming}
 
 pub no-image-refused : (settings : Settings) (number : ℕ) (i : ImageRefusal) → i ≡ noImage
@@ -118,13 +118,32 @@ module _ (settings : Settings) (rs : List Reading) where
 
 -- ---- a test, then the rest of the call
 
-module _ (settings : Settings) (o : List ℕ) (a c : Checked) (is : c ≡ a) (number : ℕ) (e : c ≡ NotAccepted number)
-    (why : Refusal) (w : why ≡ refusal settings number) where
-  pub tests-refused : (rest : ℕ → Outcome) → outcome (viewed view (Refused why)) o ≡ afterTests (refused settings) o a rest
-  tests-refused rest = simp (← is, e, w)
+-- how a call refuses: its reply with a refusal, and what its definition answers with the number
+pub record Refusing {Reply : Type 0} (view : Reply → Answer) (refused : Refusal → Reply) (refuse : Settings → ℕ → Answered Reply) : Type 0 where
+  pub same : (settings : Settings) (number : ℕ) → viewed view (refused (refusal settings number)) ≡ refuse settings number
 
-  pub invalid-tests-refused : (rest : ℕ → InvalidOutcome) → outcome (viewed invalidView (NotMarked why)) o ≡ afterTests (notMarked settings) o a rest
-  invalid-tests-refused rest = simp (← is, e, w)
+-- set-boot and mark-valid, and mark-invalid
+pub refuses : Refusing view Refused refused
+refuses = record { same = λ (settings : Settings) (number : ℕ). refl }
+
+pub refuses-mark : Refusing invalidView NotMarked notMarked
+refuses-mark = record { same = λ (settings : Settings) (number : ℕ). refl }
+
+module _ {Reply : Type 0} {view : Reply → Answer} {refused : Refusal → Reply} {refuse : Settings → ℕ → Answered Reply} (how : Refusing view refused refuse) where
+  with-number : (settings : Settings) (o : List ℕ) (number : ℕ) (why : Refusal) → why ≡ refusal settings number
+      → outcome (viewed view (refused why)) o ≡ outcome (refuse settings number) o
+  with-number settings o number why w =
+      ap (λ (r : Refusal). outcome (viewed view (refused r)) o) w ∙ ap (λ (a : Answered Reply). outcome a o) (how .same settings number)
+
+  pub tests-refused : (settings : Settings) (o : List ℕ) (a c : Checked) → c ≡ a → (number : ℕ) → c ≡ NotAccepted number
+      → (why : Refusal) → why ≡ refusal settings number → (rest : ℕ → Answers·Outcome Reply)
+      → outcome (viewed view (refused why)) o ≡ afterTests (refuse settings) o a rest
+  tests-refused settings o a c is number e why w rest = with-number settings o number why w ∙ simp (← is, e)
+
+  pub not-named : (settings : Settings) (o : List ℕ) (n : ℕ) (s : Slot) (rs : List Reading) → rs ≡ readingsOf o
+      → (h : Holder) → h ≡ activeNaming n s rs → h ≡ None → (why : Refusal) → why ≡ refusal settings 8 → (rest : ℕ → Answers·Outcome Reply)
+      → outcome (viewed view (refused why)) o ≡ afterNaming (refuse settings) o (activeNaming n s (readingsOf o)) rest
+  not-named settings o n s rs read h found e why w rest = with-number settings o 8 why w ∙ simp (← read, ← found, e)
 
 module _ {Reply : Type 0} (refuse : ℕ → Answered Reply) (o : List ℕ) (a c : Checked) (is : c ≡ a) (rest : ℕ → Answers·Outcome Reply) where
   pub tests-accepted : (listing : Listing) → c ≡ Accepted listing → (out : Answers·Outcome Reply) → out ≡ rest (listing .slots)
@@ -138,12 +157,3 @@ module _ (o : List ℕ) (a t : Examined) (is : t ≡ a) (rest : Facts → Outcom
   pub image-accepted : (facts : Facts) → t ≡ Fit facts → (r : Reply) (left : List ℕ) → outcome (viewed view r) left ≡ rest facts
       → outcome (viewed view r) left ≡ afterImage o a rest
   image-accepted facts e r left out = out ∙ simp (← is, e)
-
-module _ (settings : Settings) (o : List ℕ) (n : ℕ) (s : Slot) (rs : List Reading) (read : rs ≡ readingsOf o)
-    (h : Holder) (found : h ≡ activeNaming n s rs) (e : h ≡ None) (why : Refusal) (w : why ≡ refusal settings 8) where
-  pub not-named : (rest : ℕ → Outcome) → outcome (viewed view (Refused why)) o ≡ afterNaming (refused settings) o (activeNaming n s (readingsOf o)) rest
-  not-named rest = simp (← read, ← found, e, w)
-
-  pub invalid-not-named : (rest : ℕ → InvalidOutcome)
-      → outcome (viewed invalidView (NotMarked why)) o ≡ afterNaming (notMarked settings) o (activeNaming n s (readingsOf o)) rest
-  invalid-not-named rest = simp (← read, ← found, e, w)

@@ -1,6 +1,6 @@
 -- No call depends on the chip's revision: what it computes from the settings with another revision it computes from the settings.
 -- Assumes nothing.
-use Prim.Native.Nat.{ℕ, zero, suc, _+_, _-_}
+use Prim.Native.Nat.{ℕ}
 use mathlib.Core.Path.{_≡_, _∙_, refl, sym, ap, ap₂}
 use mathlib.Core.Bool.{cond}
 use mathlib.Core.List.{List}
@@ -14,12 +14,11 @@ use Rattle.otadata.specs.Records.{noReading, usable}
 use Rattle.otadata.proofs.Verdicts.{not-good-has, by-verdict}
 use Rattle.sectors.specs.declared.Holder.{Holder}
 use Rattle.sectors.specs.declared.Holder.the-variants.{None, Sector}
-use Rattle.sectors.specs.Sectors.{active, readingsOf, withState}
+use Rattle.sectors.specs.Sectors.{readingsOf, withState}
 use Rattle.partitions.specs.declared.App.{App}
 use Rattle.partitions.specs.declared.App.the-variants.{OtaSlot}
 use Rattle.partitions.specs.declared.Checked.{Checked}
 use Rattle.partitions.specs.declared.Checked.the-variants.{Refused as NotAccepted, Accepted}
-use Rattle.partitions.specs.PartitionList.{slotCount}
 use Rattle.app_image.specs.declared.Facts.{Facts}
 use Rattle.app_image.specs.declared.Checked.{Checked as ImageChecked}
 use Rattle.app_image.specs.declared.Checked.the-variants.{Refused as ImageRefused, Accepted as ImageAccepted}
@@ -29,8 +28,8 @@ use Rattle.boot_choice.specs.declared.Settings.{Settings}
 use Rattle.boot_choice.specs.declared.Choice.{Choice}
 use Rattle.boot_choice.specs.declared.Choice.the-variants.{Nothing, Through, Factory, Found}
 use Rattle.boot_choice.specs.Acceptance.{accepted}
-use Rattle.boot_choice.specs.Choice.{image, held, passing, orElse, ifPasses, namedSlot, throughVerdict, throughRecord, throughHolder, throughRecords}
-use Rattle.boot_choice.specs.Choice.{factory, candidate, searchFrom, choice}
+use Rattle.boot_choice.specs.Choice.{image, held, passing, ifPasses, namedSlot, throughVerdict, throughRecord, factory, candidate, choice}
+use Rattle.boot_choice.proofs.Order.{same-choice}
 use Rattle.boot.specs.Boot.{markedAt, marked, usedSector, awaiting, registerAfter, replyTo, fromMarks, byTests, boot}
 use Rattle.slot_records.specs.declared.Placement.{Placement}
 use Rattle.slot_records.specs.declared.Placement.the-variants.{Nowhere, At}
@@ -85,22 +84,16 @@ module _ (list flash : List ℕ) (settings : Settings) (v : Revision) where
   unfolding throughRecord
   same-record k r = ap (λ (c : Choice). cond (usable r) c Nothing) (same-verdict k (r .verdict))
 
-  same-holder : (rs : List Reading) (h : Holder) → throughHolder list flash other rs h ≡ throughHolder list flash settings rs h
-  same-holder rs None = refl
-  same-holder rs (Sector k) = ap₂ orElse (same-record k (getD rs k noReading)) (same-record (1 - k) (getD rs (1 - k) noReading))
-
   same-factory : factory list flash other ≡ factory list flash settings
   unfolding factory
   same-factory = simp same-passing
 
-  same-search : (rs : List Reading) (s k : ℕ) → searchFrom list flash other rs s k ≡ searchFrom list flash settings rs s k
-  unfolding searchFrom candidate
-  same-search rs s zero = refl
-  same-search rs s (suc k) = simp (same-passing, same-search rs (s + 1) k)
+  same-candidate : (rs : List Reading) (s : Slot) → candidate list flash other rs s ≡ candidate list flash settings rs s
+  unfolding candidate
+  same-candidate rs s = simp same-passing
 
-  same-choice : (rs : List Reading) → choice list flash other rs ≡ choice list flash settings rs
-  unfolding choice throughRecords
-  same-choice rs = ap₂ orElse (same-holder rs (active rs)) (ap₂ orElse same-factory (same-search rs 0 (slotCount list)))
+  chooses : (rs : List Reading) → choice list flash other rs ≡ choice list flash settings rs
+  chooses rs = same-choice list flash other settings rs rs refl (λ (k : ℕ). same-record k (getD rs k noReading)) same-factory (same-candidate rs)
 
   -- ---- boot
 
@@ -121,7 +114,7 @@ module _ (list flash : List ℕ) (settings : Settings) (v : Revision) where
   same-steps o =
       let rs = readingsOf o in
       let made = choice list flash settings rs in
-      ap (λ (c : Choice). outcome (replyTo other rs c) (awaiting other (usedSector c) o)) (same-choice rs)
+      ap (λ (c : Choice). outcome (replyTo other rs c) (awaiting other (usedSector c) o)) (chooses rs)
       ∙ ap₂ outcome (same-reply rs made) (same-awaiting (usedSector made) o)
 
   same-by-tests : (o : List ℕ) (c : Checked) → byTests list flash o other c ≡ byTests list flash o settings c

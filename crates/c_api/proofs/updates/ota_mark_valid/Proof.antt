@@ -14,17 +14,17 @@ mark-valid-requires c κs = search needs
 enum-known-reply : tie.Need-enum-known-reply
 enum-known-reply c = search needs
 
-cast-t20 : tie.Need-cast-t20
-cast-t20 c = search needs
+cast-register : tie.Need-cast-register
+cast-register c = search needs
 
-cast-t21 : tie.Need-cast-t21
-cast-t21 c = search needs
+cast-t22 : tie.Need-cast-t22
+cast-t22 c = search needs
 
 enum-known-reply-2 : tie.Need-enum-known-reply-2
 enum-known-reply-2 c = search needs
 
-cast-t23 : tie.Need-cast-t23
-cast-t23 c = search needs
+cast-register-2 : tie.Need-cast-register-2
+cast-register-2 c = search needs
 
 cast-t25 : tie.Need-cast-t25
 cast-t25 c = search needs
@@ -48,10 +48,10 @@ ota-mark-valid-spec =
     settings-of-requires
     mark-valid-requires
     enum-known-reply
-    cast-t20
-    cast-t21
+    cast-register
+    cast-t22
     enum-known-reply-2
-    cast-t23
+    cast-register-2
     cast-t25
     same-length
     returns

@@ -1,7 +1,7 @@
 -- `update::marking::confirm_named` meets its contract.
 -- Assumes nothing.
 use native.Mathlib.Omega.{arith}
-use Rattle.update.proofs.TestLaws.{not-named}
+use Rattle.update.proofs.TestLaws.{refuses, not-named}
 use Rattle.update.proofs.MarkLaws.{named-sector, named-reading, valid-named}
 use borrow.Author.Needs.{needs}
 use Rattle.update.proofs.marking.confirm_named.Statement.{statement}
@@ -26,7 +26,7 @@ same-length : tie.Need-same-length
 same-length c = search needs
 
 returns : tie.Need-returns
-returns c = search not-named
+returns c = search (not-named refuses)
 
 examine-requires : tie.Need-examine-requires
 examine-requires c κs = search needs

@@ -1,6 +1,6 @@
 -- `update::marking::give_up_named` meets its contract.
 -- Assumes nothing.
-use Rattle.update.proofs.TestLaws.{invalid-not-named}
+use Rattle.update.proofs.TestLaws.{refuses-mark, not-named}
 use Rattle.update.proofs.MarkLaws.{named-sector, no-fallback, becomes-invalid}
 use borrow.Author.Needs.{needs}
 use Rattle.update.proofs.marking.give_up_named.Statement.{statement}
@@ -25,7 +25,7 @@ same-length : tie.Need-same-length
 same-length c = search needs
 
 returns : tie.Need-returns
-returns c = search invalid-not-named
+returns c = search (not-named refuses-mark)
 
 falls-back-requires : tie.Need-falls-back-requires
 falls-back-requires c κs = search named-sector

@@ -1,6 +1,6 @@
 -- `update::marking::mark_invalid` meets its contract.
 -- Assumes nothing.
-use Rattle.update.proofs.TestLaws.{invalid-tests-refused, tests-accepted}
+use Rattle.update.proofs.TestLaws.{refuses-mark, tests-refused, tests-accepted}
 use Rattle.update.proofs.MarkLaws.{otadata-size, boot-accepts}
 use Rattle.update.specs.Marks.{markInvalid}
 use borrow.Author.Needs.{needs}
@@ -24,7 +24,7 @@ give-up-named-requires c κs = search (otadata-size, boot-accepts)
 
 returns : tie.Need-returns
 unfolding markInvalid
-returns c = search invalid-tests-refused
+returns c = search (tests-refused refuses-mark)
 
 same-length : tie.Need-same-length
 same-length c = search needs

@@ -1,6 +1,6 @@
 -- `update::marking::mark_valid` meets its contract.
 -- Assumes nothing.
-use Rattle.update.proofs.TestLaws.{tests-refused, tests-accepted}
+use Rattle.update.proofs.TestLaws.{refuses, tests-refused, tests-accepted}
 use Rattle.update.specs.Marks.{markValid}
 use borrow.Author.Needs.{needs}
 use Rattle.update.proofs.marking.mark_valid.Statement.{statement}
@@ -23,7 +23,7 @@ confirm-named-requires c κs = search needs
 
 returns : tie.Need-returns
 unfolding markValid
-returns c = search tests-refused
+returns c = search (tests-refused refuses)
 
 same-length : tie.Need-same-length
 same-length c = search needs

@@ -1,6 +1,6 @@
 -- `update::setting::set_boot` meets its contract.
 -- Assumes nothing.
-use Rattle.update.proofs.TestLaws.{tests-refused, tests-accepted}
+use Rattle.update.proofs.TestLaws.{refuses, tests-refused, tests-accepted}
 use Rattle.update.specs.SetBoot.{setBoot}
 use borrow.Author.Needs.{needs}
 use Rattle.update.proofs.setting.set_boot.Statement.{statement}
@@ -23,7 +23,7 @@ set-listed-requires c κs = search needs
 
 returns : tie.Need-returns
 unfolding setBoot
-returns c = search tests-refused
+returns c = search (tests-refused refuses)
 
 same-length : tie.Need-same-length
 same-length c = search needs
