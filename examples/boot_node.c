@@ -30,6 +30,8 @@ static void put_image(uint8_t *slot, uint32_t entry, uint8_t version) {
     slot[1] = 1;    /* segments */
     for (int k = 0; k < 4; k++)
         slot[4 + k] = (uint8_t)(entry >> 8 * k); /* the entry address */
+    slot[15] = 300 & 0xFF; /* the minimum revision, 3.0; the maximum stays 0, no limit */
+    slot[16] = 300 >> 8;
     slot[29] = 1; /* the segment's length, 256 */
     memcpy(slot + 32, descriptor, sizeof descriptor);
     slot[36] = version;         /* the secure version */
@@ -61,9 +63,9 @@ int main(void) {
     put_record(otadata, 1, STATE_VALID);
     put_record(otadata + SECTOR_SIZE, 2, STATE_NEW);
 
-    /* Is the image in slot 1 whole, and for this chip? */
+    /* Is the image in slot 1 whole, and for this chip and its revision? */
     uint64_t facts[4];
-    uint32_t number = ota_check_image(flash + SLOT_SIZE, SLOT_SIZE, settings.chip_id, facts);
+    uint32_t number = ota_check_image(flash + SLOT_SIZE, SLOT_SIZE, settings.chip_id, settings.revision, facts);
     if (number != 0) {
         printf("image refused with %" PRIu32 " at byte %" PRIu64 "\n", number, facts[0]);
         return 1;

@@ -9,7 +9,7 @@
 extern "C" {
     fn ota_make_record(sequence: u32, label: *const u8, state: u32, record: *mut u8) -> u32;
     fn ota_rewrite(sector: *mut u8, len: usize, record: *const u8, record_len: usize) -> u32;
-    fn ota_check_image(image: *const u8, len: usize, chip_id: u16, out: *mut u64) -> u32;
+    fn ota_check_image(image: *const u8, len: usize, chip_id: u16, revision: u16, out: *mut u64) -> u32;
     fn ota_boot(
         list: *const u32,
         words: usize,
@@ -43,6 +43,7 @@ fn put_image(slot: &mut [u8], entry: u32, version: u8) {
     slot[0] = 0xE9; // magic
     slot[1] = 1; // segments
     slot[4..8].copy_from_slice(&entry.to_le_bytes()); // the entry address
+    slot[15..17].copy_from_slice(&300_u16.to_le_bytes()); // the minimum revision, 3.0; the maximum stays 0, no limit
     slot[29] = 1; // the segment's length, 256
     slot[32..36].copy_from_slice(&0xABCD5432_u32.to_le_bytes());
     slot[36] = version; // the secure version
@@ -79,9 +80,9 @@ fn main() {
     put_record(&mut otadata[..SECTOR_SIZE], 1, VALID);
     put_record(&mut otadata[SECTOR_SIZE..], 2, NEW);
 
-    // Is the image in slot 1 whole, and for this chip?
+    // Is the image in slot 1 whole, and for this chip and its revision?
     let (slot, mut facts) = (&flash[SLOT_SIZE..], [0; 4]);
-    let number = unsafe { ota_check_image(slot.as_ptr(), slot.len(), CHIP_ID, facts.as_mut_ptr()) };
+    let number = unsafe { ota_check_image(slot.as_ptr(), slot.len(), CHIP_ID, REVISION, facts.as_mut_ptr()) };
     assert_eq!(number, 0, "image refused at byte {}", facts[0]);
     println!("slot 1 holds an image of {} bytes, version {}", facts[0], facts[2]);
 

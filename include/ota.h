@@ -53,9 +53,11 @@ uint32_t ota_rewrite(uint8_t *sector, size_t sector_len, const uint8_t *record, 
  * Returns 0 with out = {number of slots, 1 if factory is listed}, or 1. */
 uint32_t ota_check_list(const uint32_t *list, size_t words, size_t flash_len, uint32_t out[2]);
 
-/* Checks an app image. Returns 0 with out = {whole length, entry address, secure version, number of segments},
- * or 20 to 29 with out = {place, 0, 0, 0}. */
-uint32_t ota_check_image(const uint8_t *image, size_t image_len, uint16_t chip_id, uint64_t out[4]);
+/* Checks an app image for a chip of that id and revision, which is major * 100 + minor. An image whose minimum revision is above
+ * the chip's, or whose maximum is below it, is refused with 31; a maximum of 0 or 65,535 is no limit.
+ * Returns 0 with out = {whole length, entry address, secure version, number of segments},
+ * or 20 to 29 or 31 with out = {place, 0, 0, 0}. */
+uint32_t ota_check_image(const uint8_t *image, size_t image_len, uint16_t chip_id, uint16_t revision, uint64_t out[4]);
 
 /* ---- the eFuse register
  *
@@ -71,8 +73,9 @@ uint32_t ota_efuse_raise(uint16_t chip_id, uint32_t efuse, uint32_t version);
 /* ---- the node
  *
  * The calls below take the partition list, the flash and otadata, and all but the query the settings: chip id, the chip's revision,
- * eFuse register, and two flags, on where not 0. The revision is major * 100 + minor; no call reads it yet. A refusal gives the register as
- * it was given, and zero for the length and the entry address of an image. ota_node.h has these calls over structs. */
+ * eFuse register, and two flags, on where not 0. An app's image is checked for that chip id and revision, as by ota_check_image.
+ * A refusal gives the register as it was given, and zero for the length and the entry address of an image. ota_node.h has these
+ * calls over structs. */
 
 /* Decides which app starts, and changes the states of the records.
  * out = {1 factory or 2 slot; slot; sector used, or 2 for none; register; whole length, entry address of the app's image}.

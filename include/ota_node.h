@@ -20,7 +20,7 @@ enum { OTA_NO_SECTOR = 2 };
 /* The settings of a node. */
 typedef struct ota_settings {
     uint16_t chip_id;
-    uint16_t revision; /* the chip's, major * 100 + minor; no call reads it yet */
+    uint16_t revision; /* the chip's, major * 100 + minor */
     uint32_t efuse;
     uint8_t rollback;      /* on where not 0 */
     uint8_t anti_rollback; /* on where not 0 */

@@ -42,9 +42,9 @@ static struct {
 
 static void hold(int right, const char *what) {
     if (!right) {
-        fprintf(stderr, "node_header: %s: list of %zu words, chip %u, efuse %lx, rollback %u, anti-rollback %u, slot %lx\n", what,
-                given.node.words, given.settings.chip_id, (unsigned long)given.settings.efuse, given.settings.rollback,
-                given.settings.anti_rollback, (unsigned long)given.slot);
+        fprintf(stderr, "node_header: %s: list of %zu words, chip %u, revision %u, efuse %lx, rollback %u, anti-rollback %u, slot %lx\n",
+                what, given.node.words, given.settings.chip_id, given.settings.revision, (unsigned long)given.settings.efuse,
+                given.settings.rollback, given.settings.anti_rollback, (unsigned long)given.slot);
         exit(1);
     }
 }
@@ -115,7 +115,7 @@ static uint32_t handed_next_slot(CONST_NODE, SETTINGS, uint32_t running, uint32_
 
 /* ---- the nodes */
 
-enum { UNIT = 0x10000, SECTOR = 4096, FLASH = 3 * UNIT + SECTOR, CHIP = 5, REVISION = 303 };
+enum { UNIT = 0x10000, SECTOR = 4096, FLASH = 3 * UNIT + SECTOR, CHIP = 5, REVISION = 303, LOWER = 302 };
 enum { NEW = 0, PENDING = 1, VALID = 2 };
 
 /* Factory, slot 2, slot 0 and slot 1. Without the first entry factory isn't listed, without the last there is a slot less. */
@@ -128,12 +128,15 @@ static void put_word(uint8_t *at, uint32_t word) {
         at[k] = (uint8_t)(word >> 8 * k);
 }
 
-/* An image with a digest and one segment of `size` bytes, a multiple of 16, zero but for its descriptor. `wrong` spoils the checksum. */
+/* An image for REVISION and later, with a digest and one segment of `size` bytes, a multiple of 16, zero but for its descriptor. `wrong`
+ * spoils the checksum. */
 static void put_image(uint8_t *part, uint32_t entry, uint32_t size, uint8_t version, uint8_t wrong) {
     part[0] = 0xE9;
     part[1] = 1;
     put_word(part + 4, entry);
     part[12] = CHIP;
+    part[15] = REVISION & 0xFF;
+    part[16] = REVISION >> 8;
     part[23] = 1;
     put_word(part + 28, size);
     put_word(part + 32, 0xABCD5432);
@@ -154,8 +157,8 @@ static void put_record(uint8_t *sector, uint32_t sequence, uint32_t state) {
 /* The numbers that a call has given, a bit for each. */
 enum { BOOT, SET_BOOT, MARK_VALID, MARK_INVALID, STATE_QUERY, NEXT_SLOT, CALLS };
 static uint32_t numbers[CALLS];
-/* Whether these came up: a boot whose six values differ, and refusals with image number and place. */
-static int start_met, set_refusal_met, mark_refusal_met;
+/* Whether these came up: a boot whose six values differ, and refusals with image number and place, also for the revision. */
+static int start_met, set_refusal_met, mark_refusal_met, set_revision_met, mark_revision_met;
 
 static void prepare(void) {
     memcpy(otadata, before, sizeof before);
@@ -198,6 +201,7 @@ static void set_boot(void) {
     hold(reply.image_number == out[0] && reply.place == out[1], "image number and place of a set-boot");
     hold(reply.length == out[2] && reply.entry == out[3], "the image of a set-boot");
     set_refusal_met |= number == 5 && reply.image_number == 28 && reply.place == 559;
+    set_revision_met |= number == 5 && reply.image_number == 31 && reply.place == 15;
 }
 
 static void mark_valid(void) {
@@ -210,6 +214,7 @@ static void mark_valid(void) {
     hold(reply.efuse == out[0] && reply.image_number == out[1] && reply.place == out[2], "register, number and place of a mark");
     hold(reply.length == out[3] && reply.entry == out[4], "the image of a mark");
     mark_refusal_met |= number == 5 && reply.image_number == 28 && reply.place == 559;
+    mark_revision_met |= number == 5 && reply.image_number == 31 && reply.place == 15;
 }
 
 static void mark_invalid(void) {
@@ -249,11 +254,11 @@ static void all_calls(void) {
     }
 }
 
-/* With each of the settings. No app has the version of the register 0x1F, and none is for chip 7. */
+/* With each of the settings. No app has the version of the register 0x1F, and none is for chip 7 or the revision LOWER. */
 static void all_settings(void) {
     static const ota_settings settings[] = {
-        {CHIP, REVISION, 3, 1, 0}, {CHIP, REVISION, 3, 1, 2},    {CHIP, REVISION, 3, 0, 1},
-        {CHIP, REVISION, 3, 0, 0}, {CHIP, REVISION, 0x1F, 1, 2}, {7, REVISION, 3, 1, 0},
+        {CHIP, REVISION, 3, 1, 0},    {CHIP, REVISION, 3, 1, 2}, {CHIP, REVISION, 3, 0, 1}, {CHIP, REVISION, 3, 0, 0},
+        {CHIP, REVISION, 0x1F, 1, 2}, {7, REVISION, 3, 1, 0},    {CHIP, LOWER, 3, 1, 0},
     };
     for (size_t k = 0; k < sizeof settings / sizeof *settings; k++) {
         given.settings = settings[k];
@@ -298,7 +303,7 @@ int main(void) {
         0x81F, /* next slot: 0 to 4, 11 */
     };
     hold(memcmp(numbers, expected, sizeof numbers) == 0, "the numbers that the calls gave");
-    hold(start_met && set_refusal_met && mark_refusal_met, "the values that the calls gave");
+    hold(start_met && set_refusal_met && mark_refusal_met && set_revision_met && mark_revision_met, "the values that the calls gave");
     printf("ota_node.h: its six functions give what those of ota.h give\n");
     return 0;
 }

@@ -9,12 +9,14 @@ use ota_tests::partition::FLASH_MAX;
 use ota_tests::record::{make, State};
 use ota_tests::rng::Rng;
 use ota_tests::sector::SECTOR_SIZE;
-use ota_tests::settings::Settings;
+use ota_tests::settings::{Board, Settings};
 use ota_tests::{boot, image, partition, sector};
 use std::fmt::Debug;
 use std::hint::black_box;
 use std::time::Instant;
 
+/// The images are for chip 0 and every revision.
+const BOARD: Board = Board { chip_id: 0, revision: 301 };
 /// Runs of each side, taking turns; the median counts.
 const RUNS: usize = 31;
 /// A run repeats the work until it takes about so long.
@@ -117,9 +119,9 @@ fn check_image(name: &str, length: usize) {
         length as u64,
         |image| {
             let mut out = [0; 4];
-            (ffi::check_image(image, 0, &mut out), out[0])
+            (ffi::check_image(image, BOARD, &mut out), out[0])
         },
-        |image| image::check(image, 0).ok().map(|facts| facts.length),
+        |image| image::check(image, BOARD).ok().map(|facts| facts.length),
     );
 }
 
@@ -189,8 +191,8 @@ fn boot_slots(name: &str, n: u32, size: usize) {
 }
 
 fn time_boot(name: &str, list: &[u32], flash: &[u8], otadata: Vec<u8>, expected: [u32; 3]) {
-    let settings = ffi::Settings { chip_id: 0, revision: 0, efuse: 0, rollback: 1, anti_rollback: 0 };
-    let model_settings = Settings { chip_id: 0, revision: 0, efuse: 0, rollback: true, anti_rollback: false };
+    let settings = ffi::Settings { board: BOARD, efuse: 0, rollback: 1, anti_rollback: 0 };
+    let model_settings = Settings { board: BOARD, efuse: 0, rollback: true, anti_rollback: false };
     let [mut first, mut second] = [otadata.clone(), otadata.clone()];
     row(
         name,

@@ -46,7 +46,7 @@ pub fn passes(partitions: &Partitions, flash: &[u8], settings: &Settings, app: A
         App::Factory => partitions.factory.clone()?,
         App::Slot(slot) => partitions.slots[slot as usize].clone(),
     };
-    let facts = image::check(&flash[part], settings.chip_id).ok()?;
+    let facts = image::check(&flash[part], settings.board).ok()?;
     (!settings.too_old(facts.version)).then_some(facts)
 }
 
@@ -114,7 +114,7 @@ fn choose(
         if let Some(facts) = passes(App::Slot(slot)) {
             let mut reply = started(App::Slot(slot), None, facts);
             if settings.anti_rollback && good().next().is_none() {
-                reply.efuse = efuse_raise(settings.chip_id, settings.efuse, facts.version);
+                reply.efuse = efuse_raise(settings.board.chip_id, settings.efuse, facts.version);
             }
             return Some(reply);
         }
@@ -125,14 +125,16 @@ fn choose(
 #[cfg(test)]
 mod tests {
     use super::*;
-    use crate::generate::{plain_loadable, plain_node, two_sectors};
+    use crate::generate::{limit_revisions, plain_loadable, plain_node, two_sectors};
     use crate::record::make;
+    use crate::settings::Board;
 
     fn record(sequence: u32, state: State) -> Option<[u8; 32]> {
         Some(make(sequence, &[0xFF; 20], state.word()).unwrap())
     }
 
-    const OFF: Settings = Settings { chip_id: 0, revision: 301, efuse: 0, rollback: false, anti_rollback: false };
+    const OFF: Settings =
+        Settings { board: Board { chip_id: 0, revision: 301 }, efuse: 0, rollback: false, anti_rollback: false };
     const ROLLBACK: Settings = Settings { rollback: true, ..OFF };
 
     fn start_of_slot(slot: u32, sector: Option<usize>) -> Started {
@@ -195,6 +197,28 @@ mod tests {
         ] {
             let started = Started { app, sector, efuse: 0, image: Loadable { length, entry } };
             assert_eq!(boot(list, flash, &mut two_sectors(first, second), &ROLLBACK), Ok(started));
+        }
+    }
+
+    /// Slot 2 is tried first, then slot 1, factory and slot 0; each runs on a lower revision than the one before.
+    #[test]
+    fn the_revision_decides_the_way() {
+        let (list, mut flash) = plain_node(&[Some(1); 3], Some(1));
+        for (block, minimum) in [300, 302, 303, 301].into_iter().enumerate() {
+            limit_revisions(&mut flash[block * 0x1_0000..], minimum, 0);
+        }
+        let factory = Started { app: App::Factory, sector: None, efuse: 0, image: plain_loadable(3) };
+        for (revision, state, expected) in [
+            (303, State::Pending, Ok(start_of_slot(2, Some(1)))),
+            (302, State::New, Ok(start_of_slot(1, Some(0)))),
+            (301, State::New, Ok(factory)),
+            (300, State::New, Ok(start_of_slot(0, None))),
+            (299, State::New, Err(Refusal::NothingBootable)),
+        ] {
+            let mut otadata = two_sectors(record(2, State::Valid), record(3, State::New));
+            let settings = Settings { board: Board { revision, ..ROLLBACK.board }, ..ROLLBACK };
+            assert_eq!(boot(&list, &flash, &mut otadata, &settings), expected);
+            assert_eq!(otadata, two_sectors(record(2, State::Valid), record(3, state)));
         }
     }
 }

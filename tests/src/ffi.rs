@@ -2,11 +2,12 @@
 //!
 //! Every number, `out` and lent byte is given as the library leaves it; nothing is checked here.
 
+use crate::settings::Board;
+
 /// The settings as they are passed: a flag is on where it is not 0.
 #[derive(Clone, Copy, PartialEq, Eq, Debug)]
 pub struct Settings {
-    pub chip_id: u16,
-    pub revision: u16,
+    pub board: Board,
     pub efuse: u32,
     pub rollback: u8,
     pub anti_rollback: u8,
@@ -30,7 +31,7 @@ mod c {
         pub fn ota_store(sector: *mut u8, len: usize, record: *const u8, record_len: usize, m: usize) -> u32;
         pub fn ota_rewrite(sector: *mut u8, len: usize, record: *const u8, record_len: usize) -> u32;
         pub fn ota_check_list(list: *const u32, words: usize, flash_len: usize, out: *mut u32) -> u32;
-        pub fn ota_check_image(image: *const u8, len: usize, chip_id: u16, out: *mut u64) -> u32;
+        pub fn ota_check_image(image: *const u8, len: usize, chip_id: u16, revision: u16, out: *mut u64) -> u32;
         pub fn ota_efuse_version(chip_id: u16, efuse: u32) -> u32;
         pub fn ota_efuse_raise(chip_id: u16, efuse: u32, version: u32) -> u32;
         pub fn ota_boot(
@@ -154,8 +155,8 @@ pub fn check_list(list: &[u32], flash_len: usize, out: &mut [u32; 2]) -> u32 {
     unsafe { c::ota_check_list(list.as_ptr(), list.len(), flash_len, out.as_mut_ptr()) }
 }
 
-pub fn check_image(image: &[u8], chip_id: u16, out: &mut [u64; 4]) -> u32 {
-    unsafe { c::ota_check_image(image.as_ptr(), image.len(), chip_id, out.as_mut_ptr()) }
+pub fn check_image(image: &[u8], board: Board, out: &mut [u64; 4]) -> u32 {
+    unsafe { c::ota_check_image(image.as_ptr(), image.len(), board.chip_id, board.revision, out.as_mut_ptr()) }
 }
 
 pub fn efuse_version(chip_id: u16, efuse: u32) -> u32 {
@@ -178,8 +179,8 @@ macro_rules! call_node {
                 node.flash.len(),
                 node.otadata.as_mut_ptr(),
                 node.otadata.len(),
-                settings.chip_id,
-                settings.revision,
+                settings.board.chip_id,
+                settings.board.revision,
                 settings.efuse,
                 settings.rollback,
                 settings.anti_rollback

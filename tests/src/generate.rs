@@ -6,7 +6,7 @@ use crate::partition::{FLASH_MAX, SLOTS_MAX, SLOTS_MIN};
 use crate::record::{check_word, raw_bytes, State, HIGHEST_SEQUENCE, LABEL_SIZE, RECORD_SIZE};
 use crate::rng::Rng;
 use crate::sector::{self, OTADATA_SIZE, SECTOR_SIZE};
-use crate::settings::efuse_width;
+use crate::settings::{efuse_width, Board};
 
 const PAGE: usize = 4_096;
 const BLOCK: usize = 65_536;
@@ -59,6 +59,49 @@ pub fn plain_node_of(chip_id: u16, slots: &[Option<u32>], factory: Option<u32>) 
     }
     (list, flash)
 }
+
+/// Sets the minimum and the maximum revision of an image. The checksum doesn't cover them.
+pub fn limit_revisions(image: &mut [u8], minimum: u16, maximum: u16) {
+    image[MINIMUM_PLACE..][..2].copy_from_slice(&minimum.to_le_bytes());
+    image[MAXIMUM_PLACE..][..2].copy_from_slice(&maximum.to_le_bytes());
+}
+
+/// A minimum and a maximum revision, and the first and the last revision that fit, if any does.
+pub const LIMITS: [(u16, u16, Option<[u16; 2]>); 30] = [
+    (0, 0, Some([0, 65_535])),
+    (0, 65_535, Some([0, 65_535])),
+    (300, 0, Some([300, 65_535])),
+    (300, 65_535, Some([300, 65_535])),
+    (0, 300, Some([0, 300])),
+    (300, 300, Some([300, 300])),
+    (300, 301, Some([300, 301])),
+    (199, 399, Some([199, 399])),
+    // The minimum is above the maximum.
+    (301, 300, None),
+    (2, 1, None),
+    (400, 100, None),
+    (65_535, 65_534, None),
+    // At the ends.
+    (1, 0, Some([1, 65_535])),
+    (0, 1, Some([0, 1])),
+    (1, 1, Some([1, 1])),
+    (0, 65_534, Some([0, 65_534])),
+    (65_534, 0, Some([65_534, 65_535])),
+    (65_535, 0, Some([65_535, 65_535])),
+    (65_535, 65_535, Some([65_535, 65_535])),
+    // Both bytes of a field count, the second one more; none is a sign.
+    (0x00FF, 0, Some([0x00FF, 65_535])),
+    (0x0100, 0, Some([0x0100, 65_535])),
+    (0, 0x00FF, Some([0, 0x00FF])),
+    (0, 0x0100, Some([0, 0x0100])),
+    (0, 0xFF00, Some([0, 0xFF00])),
+    (0x0102, 0x0201, Some([0x0102, 0x0201])),
+    (0x0201, 0x0102, None),
+    (0x7FFF, 0x8000, Some([0x7FFF, 0x8000])),
+    (0x8000, 0x7FFF, None),
+    (0x8000, 0, Some([0x8000, 65_535])),
+    (0, 0x7FFF, Some([0, 0x7FFF])),
+];
 
 /// Otadata whose sectors hold the given records and are otherwise erased.
 pub fn two_sectors(first: Option<[u8; RECORD_SIZE]>, second: Option<[u8; RECORD_SIZE]>) -> Vec<u8> {
@@ -306,11 +349,61 @@ pub fn chip_id(rng: &mut Rng) -> u16 {
 }
 
 /// A chip's revision, major × 100 + minor.
-pub fn revision(rng: &mut Rng) -> u16 {
-    match rng.below(2) {
-        0 => rng.pick(&[0, 1, 99, 100, 199, 300, 399, 65_535]),
+fn revision(rng: &mut Rng) -> u16 {
+    match rng.below(3) {
+        0 => rng.pick(&[0, 1, 2, 65_534, 65_535]),
+        1 => rng.pick(&[99, 100, 199, 255, 256, 300, 399, 0x7FFF, 0x8000]),
         _ => rng.word() as u16,
     }
+}
+
+fn board(rng: &mut Rng) -> Board {
+    Board { chip_id: chip_id(rng), revision: revision(rng) }
+}
+
+/// A minimum and a maximum. The revision fits, unless it is to be below the one or above the other and can be.
+fn random_limits(rng: &mut Rng, revision: u16, damages: &[Damage]) -> [u16; 2] {
+    let minimum = match damages.contains(&BelowMinimum) && revision < 65_535 {
+        true => minimum_above(rng, revision),
+        false => fitting_minimum(rng, revision),
+    };
+    let maximum = match damages.contains(&AboveMaximum) && revision > 1 {
+        true => maximum_below(rng, revision),
+        false => fitting_maximum(rng, revision),
+    };
+    [minimum, maximum]
+}
+
+/// A minimum that the revision isn't below: often equal, one less or 0, or one whose lower byte is higher.
+fn fitting_minimum(rng: &mut Rng, revision: u16) -> u16 {
+    let any = rng.below(revision as usize + 1) as u16;
+    let below = revision.saturating_sub(1);
+    let lower_page = (revision.saturating_sub(0x0100) | 0x00FF).min(revision);
+    rng.pick(&[0, 0, revision, below, lower_page, any])
+}
+
+/// A maximum that the revision isn't above: often none, equal or one more, or one whose lower byte is lower.
+fn fitting_maximum(rng: &mut Rng, revision: u16) -> u16 {
+    let any = revision + rng.below(0x1_0000 - revision as usize) as u16;
+    let above = revision.saturating_add(1);
+    let upper_page = (revision.saturating_add(0x0100) & 0xFF00).max(revision);
+    rng.pick(&[0, 0, 65_535, 65_535, revision, above, upper_page, any])
+}
+
+/// A minimum above the revision: often one more, or one that differs in one byte.
+fn minimum_above(rng: &mut Rng, revision: u16) -> u16 {
+    let least = revision + 1;
+    let any = least + rng.below(0x1_0000 - least as usize) as u16;
+    let upper_page = revision.saturating_add(0x0100);
+    rng.pick(&[least, least, 65_535, upper_page, upper_page & 0xFF00, revision | 0x00FF, any]).max(least)
+}
+
+/// A maximum below the revision: often one less, or one that differs in one byte.
+fn maximum_below(rng: &mut Rng, revision: u16) -> u16 {
+    let most = revision - 1;
+    let any = 1 + rng.below(most as usize) as u16;
+    let lower_page = revision.saturating_sub(0x0100);
+    rng.pick(&[most, most, 1, lower_page, lower_page | 0x00FF, revision & 0xFF00, any]).clamp(1, most)
 }
 
 /// A version that the chip can hold.
@@ -338,6 +431,8 @@ pub enum Damage {
     ManySegments,
     OneMoreSegment,
     Chip,
+    BelowMinimum,
+    AboveMaximum,
     DigestFlag,
     SegmentLength,
     SegmentPassesTheEnd,
@@ -354,12 +449,14 @@ pub enum Damage {
 use Damage::*;
 
 /// Damage that keeps an image's length, for one that lies in a slot.
-const IN_PLACE: [Damage; 13] = [
+const IN_PLACE: [Damage; 15] = [
     Magic,
     NoSegments,
     ManySegments,
     OneMoreSegment,
     Chip,
+    BelowMinimum,
+    AboveMaximum,
     DigestFlag,
     SegmentLength,
     SegmentPassesTheEnd,
@@ -384,84 +481,94 @@ fn segment_lengths(rng: &mut Rng) -> Vec<usize> {
     lengths
 }
 
-/// The image with some damage. The checksum is right unless that is damaged.
-fn random_image(rng: &mut Rng, chip_id: u16, mut lengths: Vec<usize>, digest: bool, damages: &[Damage]) -> Vec<u8> {
-    let has = |damage| damages.contains(&damage);
-    if has(ShortFirstSegment) {
+/// The bytes of the header that no rule reads; 14 and 19 stand beside the fields of the revision.
+const UNREAD: [usize; 11] = [2, 3, 8, 9, 10, 11, 14, 19, 20, 21, 22];
+
+/// An image that fits the board, with some damage. The checksum is right unless that is damaged.
+fn random_image(rng: &mut Rng, board: Board, mut lengths: Vec<usize>, digest: bool, damages: &[Damage]) -> Vec<u8> {
+    if damages.contains(&ShortFirstSegment) {
         lengths[0] = rng.pick(&[0, 4, 128, 248, 252]);
     }
-    let mut version = version(rng, chip_id);
-    if has(Version) {
-        version = version_too_high(rng, chip_id);
-    }
-    let zeros = rng.chance(30);
+    let segments = random_segments(rng, board.chip_id, &lengths, damages);
+    let mut image = build_image(board.chip_id, rng.word(), &segments, digest);
+    UNREAD.into_iter().for_each(|place| image[place] = rng.word() as u8);
+    let [minimum, maximum] = random_limits(rng, board.revision, damages);
+    limit_revisions(&mut image, minimum, maximum);
+    damages.iter().for_each(|damage| apply(rng, &mut image, &lengths, *damage));
+    image
+}
+
+/// The data of the segments, with the descriptor at the front of the first.
+fn random_segments(rng: &mut Rng, chip_id: u16, lengths: &[usize], damages: &[Damage]) -> Vec<Vec<u8>> {
+    let version = if damages.contains(&Version) { version_too_high(rng, chip_id) } else { version(rng, chip_id) };
     let mut segments: Vec<Vec<u8>> = lengths.iter().map(|length| vec![0; *length]).collect();
-    if !zeros {
+    if rng.chance(70) {
         segments.iter_mut().for_each(|data| rng.fill(data));
     }
     let mut descriptor = [DESCRIPTOR_WORD.to_le_bytes(), version.to_le_bytes()].concat();
-    if has(Descriptor) {
+    if damages.contains(&Descriptor) {
         descriptor[rng.below(4)] ^= 1 << rng.below(8);
     }
     if let Some(start) = segments[0].get_mut(..8) {
         start.copy_from_slice(&descriptor);
     }
-    let mut image = build_image(chip_id, rng.word(), &segments, digest);
-    let end = HEADER_SIZE + lengths.iter().map(|length| SEGMENT_HEADER_SIZE + length).sum::<usize>();
-    for damage in damages {
-        match damage {
-            Magic => image[0] = rng.pick(&[0, 0xE8, 0xFF, 0x69]),
-            NoSegments => image[1] = 0,
-            ManySegments => image[1] = rng.pick(&[17, 18, 32, 128, 255]),
-            OneMoreSegment => image[1] += 1,
-            Chip => image[12 + rng.below(2)] ^= 1 << rng.below(8),
-            DigestFlag => image[23] = rng.pick(&[2, 3, 0x80, 0xFF]),
-            SegmentLength | SegmentPassesTheEnd => {
-                let number = rng.below(lengths.len());
-                let place = HEADER_SIZE + lengths[..number].iter().map(|l| SEGMENT_HEADER_SIZE + l).sum::<usize>() + 4;
-                let length = if *damage == SegmentLength {
-                    lengths[number] as u32 + rng.pick(&[1, 2, 3, 5, 0x8000_0002, 0_u32.wrapping_sub(2)])
-                } else {
-                    let room = (image.len() - place) as u32 & !3;
-                    rng.pick(&[room, room + 4, 0x7FFF_FFFC, 0x8000_0000, 0xFFFF_FFF0, 0xFFFF_FFFC])
-                };
-                image[place..place + 4].copy_from_slice(&length.to_le_bytes());
-            }
-            Checksum => image[(end / 16 + 1) * 16 - 1] ^= 1 << rng.below(8),
-            AnyByte => {
-                let place = rng.below(image.len());
-                image[place] ^= 1 << rng.below(8);
-            }
-            CutNearTheEnd => {
-                let cut = 1 + rng.below(image.len() - end);
-                image.truncate(image.len().saturating_sub(cut));
-            }
-            CutAnywhere => {
-                let length = rng.below(image.len() + 1);
-                image.truncate(length);
-            }
-            CutBelow288 => {
-                let length = rng.pick(&[0, 1, 23, 24, 31, 32, 40, 286, 287]);
-                image.truncate(length);
-            }
-            ShortFirstSegment | Descriptor | Version => {}
-        }
-    }
-    image
+    segments
 }
 
-/// An image for the image check alone, and the chip id to check it for.
-pub fn lone_image(rng: &mut Rng) -> (Vec<u8>, u16) {
-    let chip_id = chip_id(rng);
+/// Does what is wrong to an image of segments of these lengths.
+fn apply(rng: &mut Rng, image: &mut Vec<u8>, lengths: &[usize], damage: Damage) {
+    let header_of =
+        |number: usize| HEADER_SIZE + lengths[..number].iter().map(|l| SEGMENT_HEADER_SIZE + l).sum::<usize>();
+    let end = header_of(lengths.len());
+    match damage {
+        Magic => image[0] = rng.pick(&[0, 0xE8, 0xFF, 0x69]),
+        NoSegments => image[1] = 0,
+        ManySegments => image[1] = rng.pick(&[17, 18, 32, 128, 255]),
+        OneMoreSegment => image[1] += 1,
+        Chip => image[12 + rng.below(2)] ^= 1 << rng.below(8),
+        DigestFlag => image[23] = rng.pick(&[2, 3, 0x80, 0xFF]),
+        SegmentLength | SegmentPassesTheEnd => {
+            let number = rng.below(lengths.len());
+            let place = header_of(number) + 4;
+            let length = if damage == SegmentLength {
+                lengths[number] as u32 + rng.pick(&[1, 2, 3, 5, 0x8000_0002, 0_u32.wrapping_sub(2)])
+            } else {
+                let room = (image.len() - place) as u32 & !3;
+                rng.pick(&[room, room + 4, 0x7FFF_FFFC, 0x8000_0000, 0xFFFF_FFF0, 0xFFFF_FFFC])
+            };
+            image[place..place + 4].copy_from_slice(&length.to_le_bytes());
+        }
+        Checksum => image[(end / 16 + 1) * 16 - 1] ^= 1 << rng.below(8),
+        AnyByte => {
+            let place = rng.below(image.len());
+            image[place] ^= 1 << rng.below(8);
+        }
+        CutNearTheEnd => {
+            let cut = 1 + rng.below(image.len() - end);
+            image.truncate(image.len().saturating_sub(cut));
+        }
+        CutAnywhere => image.truncate(rng.below(image.len() + 1)),
+        CutBelow288 => image.truncate(rng.pick(&[0, 1, 23, 24, 31, 32, 40, 286, 287])),
+        // Done while the image was built.
+        BelowMinimum | AboveMaximum | ShortFirstSegment | Descriptor | Version => {}
+    }
+}
+
+/// An image for the image check alone, and the board to check it for.
+pub fn lone_image(rng: &mut Rng) -> (Vec<u8>, Board) {
+    let board = board(rng);
     let mut lengths = segment_lengths(rng);
     if rng.chance(1) {
         lengths[0] += 4 * rng.below(50_000);
     }
-    let damages: Vec<Damage> = (0..rng.pick(&[0, 0, 0, 1, 1, 1, 1, 1, 2, 3]))
+    let mut damages: Vec<Damage> = (0..rng.pick(&[0, 0, 0, 1, 1, 1, 1, 1, 2, 3]))
         .map(|_| if rng.chance(25) { rng.pick(&CUTS) } else { rng.pick(&IN_PLACE) })
         .collect();
+    if rng.chance(10) {
+        damages.extend(rng.pick(&[&[BelowMinimum][..], &[AboveMaximum], &[BelowMinimum, AboveMaximum]]));
+    }
     let digest = rng.chance(50);
-    let mut image = random_image(rng, chip_id, lengths, digest, &sorted(damages));
+    let mut image = random_image(rng, board, lengths, digest, &sorted(damages));
     if rng.chance(30) {
         let mut more = vec![0xFF; rng.below(64)];
         if rng.chance(50) {
@@ -469,7 +576,7 @@ pub fn lone_image(rng: &mut Rng) -> (Vec<u8>, u16) {
         }
         image.extend(more);
     }
-    (image, chip_id)
+    (image, board)
 }
 
 /// Each damage once, cuts last.
@@ -480,11 +587,13 @@ fn sorted(mut damages: Vec<Damage>) -> Vec<Damage> {
 }
 
 /// An image for a slot of `size` bytes; now and then one that ends with the slot or passes its end.
-fn slot_image(rng: &mut Rng, chip_id: u16, size: usize, good: bool) -> Vec<u8> {
+fn slot_image(rng: &mut Rng, board: Board, size: usize, good: bool) -> Vec<u8> {
     let mut lengths = segment_lengths(rng);
     let digest = rng.chance(50);
     let mut damages = Vec::new();
-    if !good {
+    if !good && rng.chance(15) {
+        damages.push(rng.pick(&[BelowMinimum, AboveMaximum]));
+    } else if !good {
         damages.extend((0..rng.pick(&[1, 1, 1, 2])).map(|_| rng.pick(&IN_PLACE)));
     }
     if rng.chance(4) && size <= 8 * PAGE {
@@ -498,7 +607,7 @@ fn slot_image(rng: &mut Rng, chip_id: u16, size: usize, good: bool) -> Vec<u8> {
             }
         }
     }
-    random_image(rng, chip_id, lengths, digest, &sorted(damages))
+    random_image(rng, board, lengths, digest, &sorted(damages))
 }
 
 // Partition lists.
@@ -740,7 +849,7 @@ pub fn node(rng: &mut Rng) -> NodeCase {
         if !good && rng.chance(10) {
             continue;
         }
-        let mut image = slot_image(rng, settings.chip_id, size, good);
+        let mut image = slot_image(rng, settings.board, size, good);
         image.truncate(list.flash_len - offset);
         images.push((offset, image));
     }
@@ -764,7 +873,7 @@ fn settings(rng: &mut Rng, factory: bool) -> ffi::Settings {
     let rollback = if rng.chance(65) { on(rng) } else { 0 };
     let refused = factory || rollback == 0;
     let anti_rollback = if rng.chance(if refused { 6 } else { 60 }) { on(rng) } else { 0 };
-    ffi::Settings { chip_id: chip_id(rng), revision: revision(rng), efuse: efuse(rng), rollback, anti_rollback }
+    ffi::Settings { board: board(rng), efuse: efuse(rng), rollback, anti_rollback }
 }
 
 /// A register: some of the lowest bits, few bits anywhere or any; now and then with ones in its upper half besides.

@@ -1,11 +1,17 @@
 //! The node's settings, and the eFuse version with its raising.
 
-/// Chip id, the chip's revision, eFuse register, rollback and anti-rollback.
+/// The board that an image must fit.
+#[derive(Clone, Copy, PartialEq, Eq, Debug)]
+pub struct Board {
+    pub chip_id: u16,
+    /// The chip's revision, major × 100 + minor.
+    pub revision: u16,
+}
+
+/// The board, eFuse register, rollback and anti-rollback.
 #[derive(Clone, Copy, PartialEq, Eq, Debug)]
 pub struct Settings {
-    pub chip_id: u16,
-    /// Major × 100 + minor. Nothing reads it yet.
-    pub revision: u16,
+    pub board: Board,
     pub efuse: u32,
     pub rollback: bool,
     pub anti_rollback: bool,
@@ -14,7 +20,7 @@ pub struct Settings {
 impl Settings {
     /// Whether a secure version is below the eFuse version, with anti-rollback on.
     pub fn too_old(&self, version: u32) -> bool {
-        self.anti_rollback && version < efuse_version(self.chip_id, self.efuse)
+        self.anti_rollback && version < efuse_version(self.board.chip_id, self.efuse)
     }
 }
 

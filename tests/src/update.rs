@@ -64,7 +64,7 @@ pub fn mark_valid(
     }
     let mut reply = Marked { efuse: settings.efuse, image: facts.loadable() };
     if settings.anti_rollback {
-        reply.efuse = efuse_raise(settings.chip_id, settings.efuse, facts.version);
+        reply.efuse = efuse_raise(settings.board.chip_id, settings.efuse, facts.version);
     }
     Ok(reply)
 }
@@ -144,7 +144,7 @@ fn test_running(partitions: &Partitions, otadata: &[u8], running: u32) -> Result
 /// Tests 5 and 6: the app's image, whose facts are given, then its version.
 fn test_app(partitions: &Partitions, flash: &[u8], settings: &Settings, slot: u32) -> Result<Facts, Refusal> {
     let part = partitions.slots[slot as usize].clone();
-    let facts = image::check(&flash[part], settings.chip_id).map_err(Refusal::Image)?;
+    let facts = image::check(&flash[part], settings.board).map_err(Refusal::Image)?;
     if settings.too_old(facts.version) {
         return Err(Refusal::TooOld);
     }
@@ -162,11 +162,13 @@ fn test_not_pending(active: Option<(usize, Record)>, settings: &Settings) -> Res
 #[cfg(test)]
 mod tests {
     use super::*;
-    use crate::generate::{plain_loadable, plain_node, two_sectors};
+    use crate::generate::{limit_revisions, plain_loadable, plain_node, two_sectors};
     use crate::record::make;
     use crate::refusal::ImageRefusal;
+    use crate::settings::Board;
 
-    const OFF: Settings = Settings { chip_id: 0, revision: 301, efuse: 0, rollback: false, anti_rollback: false };
+    const OFF: Settings =
+        Settings { board: Board { chip_id: 0, revision: 301 }, efuse: 0, rollback: false, anti_rollback: false };
     const ROLLBACK: Settings = Settings { rollback: true, ..OFF };
     const ANTI: Settings = Settings { anti_rollback: true, ..ROLLBACK };
 
@@ -224,6 +226,33 @@ mod tests {
         assert_eq!(otadata, two_sectors(record(1, State::Valid), record(2, State::Invalid)));
         assert_eq!(mark_invalid(&list, &flash, &mut otadata, &ANTI, 0), Err(Refusal::NoFallback));
         assert_eq!(otadata, two_sectors(record(1, State::Valid), record(2, State::Invalid)));
+    }
+
+    /// Slot 1 runs on revision 302 and later alone, which the board, of 301, is not.
+    #[test]
+    fn an_app_for_another_revision() {
+        let (list, mut flash) = plain_node(&[Some(1), Some(2)], None);
+        limit_revisions(&mut flash[0x1_0000..], 302, 0);
+        let later = Settings { board: Board { revision: 302, ..ROLLBACK.board }, ..ROLLBACK };
+        let refused = Refusal::Image(ImageRefusal { number: 31, place: 15 });
+
+        let before = two_sectors(record(1, State::Valid), record(2, State::Pending));
+        let mut otadata = before.clone();
+        assert_eq!(mark_valid(&list, &flash, &mut otadata, &ROLLBACK, 1), Err(refused));
+        assert_eq!(set_boot(&list, &flash, &mut otadata, &ROLLBACK, 1), Err(refused));
+        assert_eq!(otadata, before);
+        assert_eq!(
+            mark_valid(&list, &flash, &mut otadata, &later, 1).map(|marked| marked.image),
+            Ok(plain_loadable(1))
+        );
+        assert_eq!(set_boot(&list, &flash, &mut otadata, &later, 1), Ok(plain_loadable(1)));
+
+        let before = two_sectors(record(3, State::Valid), record(2, State::Valid));
+        let mut otadata = before.clone();
+        assert_eq!(mark_invalid(&list, &flash, &mut otadata, &ROLLBACK, 0), Err(Refusal::NoFallback));
+        assert_eq!(otadata, before);
+        assert_eq!(mark_invalid(&list, &flash, &mut otadata, &later, 0), Ok(()));
+        assert_eq!(otadata, two_sectors(record(3, State::Invalid), record(2, State::Valid)));
     }
 
     /// Set-boot that writes and of a slot that is named already; mark-valid that writes and of a record that was valid.

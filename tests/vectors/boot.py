@@ -8,7 +8,7 @@ import random
 import struct
 import sys
 
-from cases import LAST, SECTOR, Cases, total
+from cases import LAST, SECTOR, Cases, total, with_revision
 from layers import FACTORY, add_list, check_image, checksum, listing, raised, slots_in, version, width
 from records import (ABORTED, BLANK, FF, INVALID, LABEL, NEW, PENDING, STATES, UNDEFINED, VALID, add_stores, named, put_store, reading,
                      record, shown, usable)
@@ -16,7 +16,8 @@ from records import (ABORTED, BLANK, FF, INVALID, LABEL, NEW, PENDING, STATES, U
 UNIT = 65536
 SIZE = Cases.size
 
-Settings = collections.namedtuple("Settings", "rollback anti efuse chip")
+# a revision of None stands for the next of REVISIONS, by turns
+Settings = collections.namedtuple("Settings", "rollback anti efuse chip revision")
 Reply = collections.namedtuple("Reply", "number app sector register length entry")
 Image = collections.namedtuple("Image", "length entry version segments")
 
@@ -31,17 +32,18 @@ class Flash:
         self.checked = {}
         self.met = set()
 
-    def image(self, place, chip):
+    def image(self, place, settings):
         """The image in a part of the flash, or None where it is refused."""
-        if (place, chip) not in self.checked:
-            self.checked[place, chip] = check_image(bytes(self.bytes[slice(*place)]), chip)
-        answer = self.checked[place, chip]
+        checked = place, settings.chip, settings.revision
+        if checked not in self.checked:
+            self.checked[checked] = check_image(bytes(self.bytes[slice(*place)]), settings.chip, settings.revision)
+        answer = self.checked[checked]
         self.met.add(answer[0])
         return Image(*answer[1:]) if answer[0] == 0 else None
 
 
 def passes(places, flash, settings, app):
-    found = flash.image(places[app], settings.chip)
+    found = flash.image(places[app], settings)
     return found is not None and (not settings.anti or found.version >= version(settings.efuse, settings.chip))
 
 
@@ -88,7 +90,7 @@ def boot(words, length, flash, otadata, settings):
     if chosen is None:
         return refused(10, settings), b"".join(sectors)
     app, through = chosen
-    found = flash.image(places[app], settings.chip)
+    found = flash.image(places[app], settings)
 
     # step 3
     if settings.rollback and through is not None and reads[through].state == NEW:
@@ -130,7 +132,7 @@ def next_boot(p, read, untouched, places, flash, settings):
     first = usable(both[p]) and (both[p].sequence, 1 - p) > (untouched.sequence, p)
     start = p if first and passes(places, flash, settings, named(both[p].sequence, slots)) else 1 - p
     app = named(both[start].sequence, slots)
-    found = flash.image(places[app], settings.chip)
+    found = flash.image(places[app], settings)
     reply = Reply(0, app, start, settings.efuse, found.length, found.entry)
     if settings.rollback and both[start].state == NEW:
         both[start] = both[start]._replace(state=PENDING)
@@ -165,11 +167,15 @@ class Boots:
         self.boots = self.rewrites = 0
 
     def add(self, name, settings, b, laying):
-        """Each case has another revision, by turns. No rule reads it."""
         flags = laying.get("flags", 0) + settings.rollback + 2 * settings.anti
-        revision = REVISIONS[(self.boots + self.rewrites) % len(REVISIONS)]
-        body = laying.get("body", b"").ljust(112, b"\0") + revision.to_bytes(2, "little")
+        body = with_revision(laying.get("body", b""), settings.revision)
         self.cases.add(name, settings.efuse, b, self.length, settings.chip, flags, body)
+
+    def of_turn(self, settings):
+        """The settings with a revision: their own, or the one whose turn it is."""
+        if settings.revision is not None:
+            return settings
+        return settings._replace(revision=REVISIONS[(self.boots + self.rewrites) % len(REVISIONS)])
 
     def clear(self):
         self.cases.fill(0, SIZE, (0, 0))
@@ -195,7 +201,7 @@ class Boots:
 
     def boot(self, settings, recs=None, want=None, length=2 * SECTOR, seeds=(0, 0), writes=None):
         """A boot on these records, or on otadata as it stands. What is wanted is how the reply begins, and which sectors change."""
-        cases = self.cases
+        cases, settings = self.cases, self.of_turn(settings)
         self.add("boot", settings, length, {} if recs is None else cases.on(recs, [pair(seed) for seed in seeds]))
         before = [cases.sector(k) for k in (0, 1)]
         reply, after = self.model(bytes(cases.buffer[:length]), settings)
@@ -223,7 +229,7 @@ class Boots:
     def cuts(self, settings, p, olds, rec, earlier=(), seeds=(0, 0), seen=None):
         """All cuts of a rewrite of sector p, after earlier rewrites that were cut. What follows each is what demand 3 claims, and
         what the model of boot says too. What is seen is the sectors started through, in the order of the cuts."""
-        cases = self.cases
+        cases, settings = self.cases, self.of_turn(settings)
         assert all(old == BLANK or reading(old) for old in (olds[p], *[other for other, _ in earlier])) and reading(rec)
         pairs = [pair(seed) for seed in seeds]
         for turn, (other, k) in enumerate(earlier):
@@ -272,13 +278,15 @@ OTHER_CHIP = 0x0203
 REVISIONS = (0, 1, 99, 100, 199, 300, 399, CHIP, OTHER_CHIP, 65534, 65535)
 
 
-def image(size, flag, entry, secure=3, chip=CHIP, wrong=0, puts=()):
-    """An image with one segment of zeros but for its descriptor. The puts are laid over it last."""
+def image(size, flag, entry, secure=3, chip=CHIP, limits=(0, 0), wrong=0, puts=()):
+    """An image with one segment of zeros but for its descriptor. The limits are its minimum and maximum revision. The puts are laid over
+    it last."""
     e = 32 + size
     padded = e - e % 16 + 16
     made = bytearray(padded + 32 * flag)
     struct.pack_into("<BB2xI", made, 0, 0xE9, 1, entry)
     struct.pack_into("<H", made, 12, chip)
+    struct.pack_into("<HH", made, 15, *limits)
     made[23] = flag
     struct.pack_into("<II", made, 24, 0x3F400020, size)
     struct.pack_into("<II", made, 32, 0xABCD5432, secure)
@@ -306,6 +314,8 @@ BAD = {
     "no segment": (22, {"puts": [(1, b"\x00")]}),
     "segments": (22, {"puts": [(1, b"\x11")]}),
     "chip": (23, {"chip": CHIP + 1}),
+    "revision": (31, {"limits": (300, 299)}),  # whatever the board's
+    "no revision": (31, {"limits": (65535, 65534)}),
     "flag": (24, {"puts": [(23, b"\x02")]}),
     "odd length": (25, {"puts": [(28, b"\x02")]}),
     "length": (25, {"puts": [(31, b"\x80")]}),
@@ -321,14 +331,17 @@ TRAITS |= {name: traits for name, (_, traits) in BAD.items()}
 
 
 def numbered(k, traits):
-    """The image of unit k. Each has a length and an entry address of its own; every other one has a digest, unless its traits decide."""
-    return image(**{"size": 256 + 16 * k, "flag": k % 2, "entry": (0x40080400 + 0x01020304 * k) % (1 << 32), **traits})
+    """The image of unit k. Each has a length and an entry address of its own; every other one has a digest, and every other two have the
+    maximum revision 65,535 instead of 0, unless the traits decide."""
+    entry = (0x40080400 + 0x01020304 * k) % (1 << 32)
+    return image(**{"size": 256 + 16 * k, "flag": k % 2, "entry": entry, "limits": (0, (0, 65535)[k // 2 % 2]), **traits})
 
 
 IMAGES = {name: numbered(k, traits) for k, (name, traits) in enumerate(TRAITS.items())}
 # by unit, the whole length and the entry address
 MADE = [(len(made), int.from_bytes(made[4:8], "little")) for made in IMAGES.values()]
 assert len(MADE) == len({length for length, _ in MADE}) == len({entry for _, entry in MADE})
+MADE_LIMITS = {name: struct.unpack_from("<HH", made, 15) for name, made in IMAGES.items()}
 UNITS = {name: unit for unit, name in enumerate(IMAGES)}
 EMPTY = SIZE // UNIT - 1
 assert len(UNITS) <= EMPTY  # the last unit stays zero
@@ -354,7 +367,7 @@ def add_flash(cases):
         cases.patch(UNIT * UNITS[name], made)
 
 
-ROLLBACK = Settings(True, False, 7, CHIP)
+ROLLBACK = Settings(True, False, 7, CHIP, None)
 PLAIN = ROLLBACK._replace(rollback=False)
 ANTI = ROLLBACK._replace(anti=True)
 ALL_SETTINGS = (PLAIN, ROLLBACK, ANTI)
@@ -409,10 +422,11 @@ def add_grid(cases):
                 cases.boot(settings, recs)
 
 
-def add_fallbacks(cases):
+def add_fallbacks(cases, bads=("magic", "checksum", "v33", "descriptor"), revision=None):
     """Whether the active record's app passes, the other one's, factory's and the slot that none names; factory first and last."""
+    rollback, plain = ROLLBACK._replace(revision=revision), PLAIN._replace(revision=revision)
     for passing in itertools.product((True, False), repeat=4):
-        names = [good if ok else bad for ok, good, bad in zip(passing, "abcd", ("magic", "checksum", "v33", "descriptor"))]
+        names = [good if ok else bad for ok, good, bad in zip(passing, "abcd", bads)]
         for place in (None, 0, 3):
             of_active, of_other, of_factory, unnamed = names
             cases.list(listed([unnamed, of_active, of_other], None if place is None else of_factory, place))
@@ -420,9 +434,9 @@ def add_fallbacks(cases):
                 ways = [(passing[0], 1, sector), (passing[1], 2, 1 - sector), (passing[2] and place is not None, FACTORY, None),
                         (passing[3], 0, None)]
                 want = next(((0, app, through, 7) for ok, app, through in ways if ok), (10, None, None, 7))
-                for settings, states in ((ROLLBACK, (VALID, UNDEFINED)), (ROLLBACK, (NEW, NEW)), (PLAIN, (NEW, PENDING))):
+                for settings, states in ((rollback, (VALID, UNDEFINED)), (rollback, (NEW, NEW)), (plain, (NEW, PENDING))):
                     recs = record(5, states[0]), record(3, states[1])
-                    marks = [want[2]] if settings is ROLLBACK and states[0] == NEW and want[2] is not None else []
+                    marks = [want[2]] if settings.rollback and states[0] == NEW and want[2] is not None else []
                     cases.boot(settings, recs if sector == 0 else recs[::-1], want, writes=marks)
 
 
@@ -547,6 +561,7 @@ def add_by_chip(cases):
         add_chip_ids(cases, chip)
         add_anti_rollback(cases, chip, ANTI._replace(chip=chip), ROLLBACK._replace(chip=chip))
         add_register(cases, chip, ANTI._replace(chip=chip), ROLLBACK._replace(chip=chip))
+        add_revision_ways(cases, ANTI._replace(chip=chip), ROLLBACK._replace(chip=chip))
     add_chip_ids(cases, CHIP)
 
 
@@ -681,7 +696,7 @@ def add_refusals(cases):
             for rollback, anti in itertools.product((True, False), repeat=2):
                 number = 1 if broken else 2 if length != 8192 else 3 if anti and (not rollback or words == with_factory) else None
                 if number is not None:
-                    settings = Settings(rollback, anti, 0x1234, CHIP)
+                    settings = Settings(rollback, anti, 0x1234, CHIP, None)
                     cases.boot(settings, recs, (number, None, None, 0x1234), length, (9, 0), writes=())
         cases.boot(ROLLBACK, recs, (1,) if broken else (0, 1, 1), seeds=(9, 0), writes=() if broken else (0, 1))
         cases.boot(ANTI, recs, (1,) if broken else (3,) if words == with_factory else (0, 1, 1), seeds=(9, 0))
@@ -691,7 +706,7 @@ def add_images(cases):
     """An image that is refused, for each reason, does not pass; its entry's part alone is checked, for the chip that is set."""
     valid = record(1, VALID), record(2, VALID)
     for name, (number, _) in BAD.items():
-        assert check_image(IMAGES[name].ljust(SECTOR, b"\0"), CHIP)[0] == number
+        assert check_image(IMAGES[name].ljust(SECTOR, b"\0"), CHIP, 300)[0] == number
         cases.list(listed(["a", name]))
         cases.boot(ROLLBACK, valid, (0, 0, 0, 7), writes=())
         cases.list(listed([name, "magic" if name != "magic" else "v33"], "empty"))
@@ -708,6 +723,54 @@ def add_images(cases):
             cases.boot(ROLLBACK, valid, (0, 1, 1) if passes else (0, 0, 0), writes=())
             cases.list(listed(["magic", "v33"], name, place=1, sizes={name: size * SECTOR}))
             cases.boot(ROLLBACK, valid, (0, FACTORY, None) if passes else (10,), writes=())
+
+
+def add_limits(cases, limits):
+    """The images have these minimums and maximums from now on, by name. The checksums don't cover them."""
+    for name, pair in limits.items():
+        cases.patch(UNIT * UNITS[name] + 15, struct.pack("<HH", *pair))
+
+
+def add_revisions(cases):
+    """An app that doesn't fit the board's revision does not pass, in each way and at the edges of its minimum and maximum."""
+    wrong = {"e": (301, 0), "f": (0, 299), "g": (301, 65535), "h": (400, 200)}
+    add_limits(cases, wrong | {"a": (300, 0), "b": (0, 300), "c": (300, 300), "d": (299, 301)})
+    add_fallbacks(cases, tuple(wrong), 300)
+    add_revision_edges(cases)
+    add_limits(cases, MADE_LIMITS)
+
+
+def add_revision_edges(cases):
+    """The app of the active record, which falls back to that of the other one."""
+    cases.list(listed(["i", "j"]))
+    for minimum, maximum, first, last in ((0, 0, 0, 65535), (0, 65535, 0, 65535), (300, 0, 300, 65535), (300, 65535, 300, 65535),
+                                          (0, 300, 0, 300), (300, 300, 300, 300), (199, 399, 199, 399), (CHIP, 0, CHIP, 65535),
+                                          (65535, 0, 65535, 65535), (0, 1, 0, 1), (0x0102, 0x0201, 0x0102, 0x0201),
+                                          (0x7FFF, 0x8000, 0x7FFF, 0x8000), (0, 0xFF00, 0, 0xFF00), (301, 300, 1, 0)):
+        add_limits(cases, {"j": (minimum, maximum)})
+        near = {0, 300, first - 1, first, first + 1, last - 1, last, last + 1, 65535}
+        for revision in sorted(near & set(range(65536))):
+            want = (0, 1, 0) if first <= revision <= last else (0, 0, 1)
+            cases.boot(ROLLBACK._replace(revision=revision), (record(2, VALID), record(1, VALID)), want, writes=())
+
+
+def add_revision_ways(cases, anti, rollback):
+    """The lower the revision, the later the app that is started. A new record that is passed over stays new, and the last search raises
+    the register, past slots that don't fit."""
+    add_limits(cases, {"j": (303, 0), "k": (302, 0), "l": (301, 65535), "m": (300, 65535)})
+    recs = record(3, NEW, LABEL), record(2, VALID)
+    ways = {304: (0, 2, 0), 303: (0, 2, 0), 302: (0, 1, 1), 301: (0, FACTORY, None), 300: (0, 0, None), 299: (10, None, None)}
+    cases.list(listed(["m", "k", "j"], "l"))
+    for revision, want in ways.items():
+        cases.boot(rollback._replace(revision=revision), recs, want, writes=[0] if revision >= 303 else [])
+        cases.boot(rollback._replace(revision=revision, rollback=False), recs, want, writes=())
+    cases.list(listed(["j", "k", "m"]))
+    for revision, slot in ((304, 0), (303, 0), (302, 1), (301, 2), (300, 2), (299, None)):
+        found = (0, slot, None, 7) if slot is not None else (10, None, None, 0)
+        cases.boot(anti._replace(efuse=0, revision=revision), (BLANK, BLANK), found, writes=())
+        found = (0, 1, None) if revision >= 302 else (10, None, None)  # slots 0 and 2 are barred
+        cases.boot(rollback._replace(revision=revision), (record(4, PENDING), record(3, INVALID)), found, writes=(0,))
+    add_limits(cases, MADE_LIMITS)
 
 
 def add_lives(cases):
@@ -759,7 +822,7 @@ def add_random(cases, rand):
             efuse = rand.choice((*REGISTERS[CHIP].values(), 0x03, 0x11, 0x0B, 0x07, rand.getrandbits(32)))
             length = rand.choice((0, 4096, 8191, 8193)) if rand.random() < 0.02 else 8192
             seeds = rand.choice((0, 0, 5)), rand.choice((0, 9))
-            cases.boot(Settings(rollback, anti, efuse, chip), recs, length=length, seeds=seeds)
+            cases.boot(Settings(rollback, anti, efuse, chip, None), recs, length=length, seeds=seeds)
 
 
 # ---- power cuts
@@ -810,6 +873,19 @@ def add_cut_apps(cases):
         cases.cuts(ANTI, p, (kept, passes)[::order], low, seen=[p, 1 - p])
 
 
+def add_cut_revisions(cases):
+    """The app of the rewritten sector fits the board's revision or not; the untouched one's does."""
+    cases.list(listed(["a", "b", "c"]))
+    add_limits(cases, {"a": (299, 301), "b": (301, 0), "c": (0, 299)})
+    kept, of_b, of_c = record(4, VALID), record(5, NEW), record(6, NEW)
+    for p, revision in itertools.product((0, 1), (299, 300, 301)):
+        order = 1 if p else -1
+        for rec, fits in ((of_b, revision == 301), (of_c, revision == 299)):
+            seen = [1 - p, p] if fits else [1 - p]
+            cases.cuts(ROLLBACK._replace(revision=revision), p, (kept, record(3, VALID))[::order], rec, seen=seen)
+    add_limits(cases, MADE_LIMITS)
+
+
 def add_cut_sequences(cases):
     """Sequences with bytes of 0xFF: what is erased or not yet programmed of them makes no difference."""
     kept = record(6, VALID)
@@ -840,10 +916,10 @@ def add_all(cases):
     """Gives the number of boots and of rewrites of which all cuts are made."""
     boots = Boots(cases)
     for add in (add_flash, add_examples, add_active, add_grid, add_fallbacks, add_same_slot, add_search, add_marks, add_new,
-                add_by_chip, add_widths, add_damaged, add_bytes, add_refusals, add_images, add_lives):
+                add_by_chip, add_widths, add_damaged, add_bytes, add_refusals, add_images, add_revisions, add_lives):
         add(boots)
     add_random(boots, random.Random(20261117))
-    assert set(boots.met) == {0, 1, 2, 3, 10} and boots.flash.met == {0, *range(21, 30)}
-    for add in (add_rewrites, add_cut_states, add_cut_apps, add_cut_sequences, add_cut_lists):
+    assert set(boots.met) == {0, 1, 2, 3, 10} and boots.flash.met == {0, *range(21, 30), 31}
+    for add in (add_rewrites, add_cut_states, add_cut_apps, add_cut_revisions, add_cut_sequences, add_cut_lists):
         add(boots)
     return boots.boots, boots.rewrites

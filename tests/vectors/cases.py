@@ -11,7 +11,7 @@ A case is 256 bytes; numbers are little-endian:
    16  record of sector 0, 48  record of sector 1, 80  the record lent; or the bytes that are put into the flash; or up to 60
        sequences; or the list's first 60 words: after them the gate's program has zeros, and the other repeats words 57 to 59
   124  start and step of sector 0's or the flash's filler, 126  those of sector 1's
-  128  half word: the chip's revision, of boot and cuts
+  128  half word: the chip's revision, of image, boot and cuts
 Byte i of what is filled is the front's, and after it the start, with step 1 plus 7 i + 13 (i / 256) + 29 (i / 65,536), mod 256. With step 2,
 in the gate's program alone, it is byte i % 4 of the number i - i % 4: the word at each multiple of 4 is its place.
 Sector 1 is laid up to the buffer's end. The kinds:
@@ -27,7 +27,7 @@ Sector 1 is laid up to the buffer's end. The kinds:
     7 list: words, length a + 2^32 b of the flash                    number, slots, 1 if factory is listed
     8 part: slot a, length c of the flash       length and sum of the slot's part, and its first word, which is its place in a flash of step 2
     9 factory: length c of the flash            the same of factory
-   10 image: chip, length c                     number, and the four numbers of its check
+   10 image: chip, revision, length c           number, and the four numbers of its check
    11 active: lengths a, b of the sectors       number, the record, what each sector reads as
    12 stores: sector, its length a, the record's length b % 256, b / 256 stores from c on
    13 rewrite: the same but c                   number, what the sector reads as, sum of the buffer
@@ -62,6 +62,12 @@ def filler(start, step, count):
     if step == 2:
         return b"".join(i.to_bytes(4, "little") for i in range(0, count, 4))[:count]
     return bytes((start + step * (7 * i + 13 * (i // 256) + 29 * (i // 65536))) % 256 for i in range(count))
+
+
+def with_revision(body, revision):
+    """What a case has from 16 on, with the revision at 128."""
+    assert len(body) <= 112
+    return body.ljust(112, b"\0") + revision.to_bytes(2, "little")
 
 
 def laid(front, pair, count):

@@ -8,13 +8,14 @@ import operator
 import random
 import struct
 
-from cases import LAST, SECTOR, WORDS, GateCases, filler, total
+from cases import LAST, SECTOR, WORDS, GateCases, filler, total, with_revision
 
 FLASH = 16_777_216
 IMAGES = 1 << 20  # the front of the flash that holds an image
 PARTS = GateCases.size  # that which holds the parts
 ALIGN = 65536
 FACTORY = "factory"
+REVISION = 30_000
 
 
 # ---- the rules
@@ -70,16 +71,25 @@ def word(data, at):
     return int.from_bytes(data[at:at + 4], "little")
 
 
+def half(data, at):
+    return int.from_bytes(data[at:at + 2], "little")
+
+
 def checksum(datas):
     return functools.reduce(operator.xor, b"".join(datas), 0xEF)
 
 
-def check_image(image, chip):
+def wrong_revision(image, revision):
+    minimum, maximum = half(image, 15), half(image, 17)
+    return revision < minimum or maximum not in (0, 65535) and revision > maximum
+
+
+def check_image(image, chip, revision):
     """Number and place of the refusal, or 0 with whole length, entry, secure version and number of segments."""
     if len(image) < 288:
         return 20, 0
-    for wrong, refusal in ((image[0] != 0xE9, (21, 0)), (not 1 <= image[1] <= 16, (22, 1)),
-                           (image[12] + 256 * image[13] != chip, (23, 12)), (image[23] > 1, (24, 23))):
+    for wrong, refusal in ((image[0] != 0xE9, (21, 0)), (not 1 <= image[1] <= 16, (22, 1)), (half(image, 12) != chip, (23, 12)),
+                           (wrong_revision(image, revision), (31, 15)), (image[23] > 1, (24, 23))):
         if wrong:
             return refusal
     at, datas = 24, []
@@ -143,15 +153,15 @@ class Layers:
         self.cases.add(name, slot or 0, c=flash)
         self.cases.say(name, len(found), total(found), place)
 
-    def image(self, content, wanted=None, length=None, chip=0):
+    def image(self, content, wanted=None, length=None, chip=0, revision=REVISION):
         """An image at the front of the flash. What is wanted is the answer's number, or how the answer begins."""
         self.cases.patch(0, content)
         length = len(content) if length is None else length
-        answer = check_image(bytes(self.cases.flash[:length]), chip)
+        answer = check_image(bytes(self.cases.flash[:length]), chip, revision)
         wanted = (wanted,) if isinstance(wanted, int) else wanted
         assert wanted is None or answer[:len(wanted)] == wanted, (answer, wanted)
         self.met.add(answer[0])
-        self.cases.add("image", c=length, half=chip)
+        self.cases.add("image", c=length, half=chip, body=with_revision(b"", revision))
         self.cases.say("image", *(*answer, 0, 0, 0)[:5])
 
 
@@ -363,10 +373,12 @@ def add_parts(cases):
 # ---- app images
 
 FILLED = filler(0, 1, IMAGES)
+LIMITS = struct.unpack_from("<HH", FILLED, 15)  # the minimum and the maximum revision that a fill leaves
+assert 0 < LIMITS[0] < REVISION < LIMITS[1] < 65535
 
 
-def build(lengths, magic=0xE9, count=None, entry_address=0x40080400, chip=0, flag=0, descriptor=0xABCD5432, secure=1, wrong=0,
-          puts=(), cut=0, more=0):
+def build(lengths, magic=0xE9, count=None, entry_address=0x40080400, chip=0, limits=LIMITS, flag=0, descriptor=0xABCD5432, secure=1,
+          wrong=0, puts=(), cut=0, more=0):
     """An image with segments of these lengths, whose data is what a fill leaves. The puts are laid over it last."""
     e = 24 + sum(8 + length for length in lengths)
     padded = e - e % 16 + 16
@@ -374,6 +386,7 @@ def build(lengths, magic=0xE9, count=None, entry_address=0x40080400, chip=0, fla
     struct.pack_into("<BB", image, 0, magic, len(lengths) if count is None else count)
     struct.pack_into("<I", image, 4, entry_address)
     struct.pack_into("<H", image, 12, chip)
+    struct.pack_into("<HH", image, 15, *limits)
     image[23] = flag
     struct.pack_into("<II", image, 32, descriptor, secure)
     at, datas = 24, []
@@ -480,10 +493,47 @@ def add_end_faults(cases):
         cases.image(build([256], flag=1, more=8, puts=[(place, le(FILLED[place] ^ 0x10, 1))]), (0, 336))
 
 
+# a minimum and a maximum revision, and the first and the last revision that fit, if any does
+FITTING = {
+    (0, 0): (0, 65535), (0, 65535): (0, 65535), (300, 0): (300, 65535), (300, 65535): (300, 65535), (0, 300): (0, 300),
+    (300, 300): (300, 300), (199, 399): (199, 399), (300, 301): (300, 301),
+    (301, 300): None, (2, 1): None, (400, 100): None, (65535, 65534): None, (0x8000, 0x7FFF): None, (0x0201, 0x0102): None,
+    (1, 0): (1, 65535), (0, 1): (0, 1), (1, 1): (1, 1), (0, 65534): (0, 65534), (65534, 0): (65534, 65535),
+    (65535, 0): (65535, 65535), (65535, 65535): (65535, 65535), (0x00FF, 0): (0x00FF, 65535), (0x0100, 0): (0x0100, 65535),
+    (0, 0x00FF): (0, 0x00FF), (0, 0x0100): (0, 0x0100), (0, 0xFF00): (0, 0xFF00), (0x0102, 0x0201): (0x0102, 0x0201),
+    (0x7FFF, 0x8000): (0x7FFF, 0x8000), (0x8000, 0): (0x8000, 65535), (0, 0x7FFF): (0, 0x7FFF),
+}
+
+
+def around(limits):
+    """The revisions beside each limit and beside the limit with its bytes swapped, its neighbours by 256, and the lowest and highest."""
+    swapped = [(limit % 256) * 256 + limit // 256 for limit in limits]
+    near = {0, 1, 65534, 65535, *limits, *swapped, *[limit + more for limit in limits for more in (-256, -1, 1, 256)]}
+    return sorted(revision for revision in near if 0 <= revision <= 65535)
+
+
+def add_revisions(cases):
+    """Revisions at the edges of the minimum and the maximum; both bytes of a field count, the bytes beside the fields don't."""
+    for limits, fitting in FITTING.items():
+        for revision in around(limits):
+            fits = fitting is not None and fitting[0] <= revision <= fitting[1]
+            cases.image(build([256], limits=limits), (0, 304) if fits else (31, 15), revision=revision)
+    for beside in (0, 1, 0x7F, 0xFF):
+        puts = [(14, le(beside, 1)), (19, le(beside, 1))]
+        for first, last in ((300, 400), (0x0102, 0x0201), (0x0100, 0x0200), (1, 2), LIMITS):
+            for revision, number in ((first - 1, 31), (first, 0), (last, 0), (last + 1, 31)):
+                cases.image(build([256], limits=(first, last), puts=puts), number, revision=revision)
+    for chip in (5, 16, 300, 0xFFFF):  # the revision is not the chip id, and counts on every chip
+        for revision, number in ((299, 31), (300, 0), (400, 0), (401, 31), (chip, 0 if chip == 300 else 31)):
+            cases.image(build([256], limits=(300, 400), chip=chip), number, chip=chip, revision=revision)
+
+
+# in the order of the tests
 FAULTS = {
     21: {"magic": 0x9E},
     22: {"count": 17},
     23: {"chip": 0x0900},
+    31: {"limits": (REVISION + 1, 65535)},
     24: {"puts": [(23, le(2, 1))]},
     25: {"puts": [(28, le(262))]},
     26: {"descriptor": 0xABCD5433},
@@ -494,16 +544,19 @@ FAULTS = {
 
 
 def add_pairs(cases):
-    """Two faults at once: the lower number is given. After a bad segment there is no end, so 25 goes with neither 27 nor 28."""
+    """Two faults at once: the earlier test's number is given. After a bad segment there is no end, so 25 goes with neither 27 nor 28."""
     for number, fault in FAULTS.items():
         cases.image(build([260, 4], flag=1, **fault), number)
         cases.image(build([200], flag=1, **fault), 20)
-    for lower, higher in itertools.combinations(FAULTS, 2):
-        if (lower, higher) in ((25, 27), (25, 28)):
+    for first, second in itertools.combinations(FAULTS, 2):
+        if (first, second) in ((25, 27), (25, 28)):
             continue
-        fault = {**FAULTS[lower], **FAULTS[higher]}
-        fault["puts"] = FAULTS[lower].get("puts", []) + FAULTS[higher].get("puts", [])
-        cases.image(build([260, 4], flag=1, **fault), lower)
+        fault = {**FAULTS[first], **FAULTS[second]}
+        fault["puts"] = FAULTS[first].get("puts", []) + FAULTS[second].get("puts", [])
+        cases.image(build([260, 4], flag=1, **fault), first)
+        if 31 in (first, second):  # above the maximum, and outside of both
+            for limits in ((0, REVISION - 1), (REVISION + 1, REVISION - 1)):
+                cases.image(build([260, 4], flag=1, **{**fault, "limits": limits}), first)
     cases.image(build([256], count=0, secure=33), 22)
     cases.image(build([252], wrong=1), 26)
 
@@ -528,7 +581,7 @@ def add_large_images(cases):
 
 
 def add_random_images(cases, rand):
-    places = [0, 1, 4, 7, 12, 13, 23, 28, 29, 32, 35, 36, 37]
+    places = [0, 1, 4, 7, 12, 13, 14, 15, 16, 17, 18, 19, 23, 28, 29, 32, 35, 36, 37]
     for _ in range(60):
         lengths = [256 + 4 * rand.randrange(8)] + [4 * rand.randrange(12) for _ in range(rand.choice((0, 1, 1, 2, 3)))]
         more = rand.randrange(40)
@@ -553,8 +606,8 @@ def add_all(cases):
         add(layers)
     add_random_lists(layers, rand)
     add_parts(layers)
-    for add in (add_examples, add_header_faults, add_segment_faults, add_descriptor_faults, add_end_faults, add_pairs):
+    for add in (add_examples, add_header_faults, add_revisions, add_segment_faults, add_descriptor_faults, add_end_faults, add_pairs):
         add(layers)
     add_large_images(layers)
     add_random_images(layers, rand)
-    assert layers.met == {0, *range(20, 30)}
+    assert layers.met == {0, *range(20, 30), 31}

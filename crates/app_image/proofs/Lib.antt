@@ -1,5 +1,6 @@
 pub mod Acceptance
 pub mod Examples
+pub mod Head
 pub mod Refusals
 pub mod Segments
 pub mod Tail

@@ -5,7 +5,7 @@ use mathlib.Core.List.{List, [], _∷_, _++_}
 use lib.ListN.{replicate}
 use Rattle.app_image.specs.declared.Facts.{Facts}
 use Rattle.app_image.specs.declared.Checked.the-variants.{Accepted}
-use Rattle.app_image.specs.Check.{check}
+use Rattle.app_image.specs.Check.{boardOf, check}
 
 -- one 256-byte segment, its descriptor zero but for its word and version 1, with a digest flag
 unfoldable pub oneSegment : ℕ → List ℕ
@@ -20,6 +20,6 @@ oneSegment flag =
 abbrev pub oneSegmentFacts : Facts
 oneSegmentFacts = record { length = 304; entry = 0; version = record { 0 = 1 }; segments = 1 }
 
--- without a digest it is accepted, for chip 0
+-- without a digest it is accepted, for chip 0 in every revision: its minimum and maximum are 0
 unfoldable pub OneSegmentAccepted : Type 0
-OneSegmentAccepted = check (oneSegment 0) (record { 0 = 0 }) .reply ≡ Accepted oneSegmentFacts
+OneSegmentAccepted = (revision : ℕ) → check (oneSegment 0) (boardOf 0 revision) .reply ≡ Accepted oneSegmentFacts

@@ -1,15 +1,23 @@
-// The layout of an image: the walk over its segments, the checksum of their data, and its whole length.
+// The layout of an image: a half word of it, the walk over its segments, the checksum of their data, and its whole length.
 ghost use mathlib.Core.Path.{_≡_};
-ghost use Prim.Native.Nat.{_≤_, _<_, _^_};
+ghost use Prim.Native.Nat.{_+_, _≤_, _<_, _^_};
 ghost use mathlib.Core.Bool.{false};
 ghost use lib.ListN.{length};
-ghost use Rattle.app_image.specs.Layout.{headerSize, badSegment, dataEnd, segmentsFrom, walked, xored as Layout·xored, padded as Layout·padded, wholeLength};
+ghost use Rattle.app_image.specs.Layout.{half, headerSize, badSegment, dataEnd, segmentsFrom, walked, xored as Layout·xored, padded as Layout·padded, wholeLength};
 use crate::Walked;
 use otadata::word_at;
 
 pub(crate) const HEADER_SIZE: usize = 24;
 
 const SEGMENT_HEADER_SIZE: usize = 8;
+
+// The half word in the two bytes from `at`.
+pub(crate) fn half_at(bytes: &[u8], at: usize) -> u16
+    requires { ⌜ at + 2 ≤ length (now bytes) ⌝ }
+    ensures { λ r. ⌜ r ≡ half (now (bytes .entry)) at ⌝ }
+{
+    bytes[at] as u16 + 256 * (bytes[at + 1] as u16)
+}
 
 // Walks over that many segments.
 pub(crate) fn walk(image: &[u8], count: u8) -> Walked

@@ -3,9 +3,10 @@ mod checks;
 mod layout;
 
 pub use checks::check;
+use efuse::ChipId;
 use efuse::SecureVersion;
 
-// Document 01's numbers of a refused image.
+// The numbers of a refused image, those of document 01 and, tested after 23, that of document 02.
 pub const TOO_SHORT: u32 = 20;
 
 pub const WRONG_MAGIC: u32 = 21;
@@ -26,7 +27,18 @@ pub const WRONG_CHECKSUM: u32 = 28;
 
 pub const VERSION_TOO_HIGH: u32 = 29;
 
-// Why an image is refused: document 01's number, and the place in the image.
+pub const WRONG_REVISION: u32 = 31;
+
+// A chip's revision: major × 100 + minor.
+pub struct Revision(pub u16);
+
+// The board that an image must fit: the chip id, and the chip's revision.
+pub struct Board {
+    pub chip: ChipId,
+    pub revision: Revision,
+}
+
+// Why an image is refused: the number, and the place in the image.
 pub struct Refusal {
     pub number: u32,
     pub place: usize,
@@ -50,6 +62,14 @@ pub enum Checked {
 pub(crate) enum Tested {
     Passed,
     Failed(Refusal),
+}
+
+// How an image ends: its length, where its segments end, the checksum of their data, and the byte in its place, or 0 past the end.
+pub(crate) struct Ending {
+    length: usize,
+    e: usize,
+    sum: u8,
+    stored: u8,
 }
 
 // Where the segments end and the checksum of their data, or where the first bad one begins.

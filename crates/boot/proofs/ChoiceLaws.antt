@@ -44,9 +44,9 @@ held-by settings (Accepted f) facts e = by (tooOld settings (f .version)) refl e
 
 -- its image is accepted with these facts
 pub passing-accepted : (list flash : List ℕ) (settings : Settings) (app : App) (facts : Facts) → passing list flash settings app ≡ Yes facts
-    → check (image list flash app) (settings .chip) .reply ≡ Accepted facts
+    → check (image list flash app) (settings .board) .reply ≡ Accepted facts
 unfolding passing
-passing-accepted list flash settings app facts e = held-by settings (check (image list flash app) (settings .chip) .reply) facts e .0
+passing-accepted list flash settings app facts e = held-by settings (check (image list flash app) (settings .board) .reply) facts e .0
 
 -- ---- a choice
 

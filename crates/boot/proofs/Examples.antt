@@ -19,6 +19,7 @@ use Rattle.efuse.specs.Register.{width, setLowest, raised}
 use Rattle.partitions.specs.declared.App.the-variants.{OtaSlot}
 use Rattle.partitions.specs.PartitionList.{countBelow, factorySubtype, timesListed, slotCount, right, checked}
 use Rattle.app_image.specs.declared.Facts.{Facts}
+use Rattle.app_image.specs.Check.{boardOf}
 use Rattle.boot_choice.specs.declared.Settings.{Settings}
 use Rattle.boot_choice.specs.declared.Passing.the-variants.{No, Yes}
 use Rattle.boot_choice.specs.declared.Choice.the-variants.{Nothing, Through, Found}
@@ -78,7 +79,7 @@ module _ (list flash : List ℕ) (settings : Settings) (facts : Facts) (n : slot
 
 -- a slot that it found raises the register to its app's version, 4, while neither sector holds a good record
 abbrev protected : ℕ → ℕ → Settings
-protected chip efuse = record { chip = record { 0 = chip }; revision = record { 0 = 0 }; efuse = efuse; rollback = true; «anti_rollback» = true }
+protected chip efuse = record { board = boardOf chip 0; efuse = efuse; rollback = true; «anti_rollback» = true }
 
 module _ (facts : Facts) (v : facts .version .0 ≡ 4) where
   pub raises : registerAfter (protected 0 0x0B) (noReading ∷ noReading ∷ []) (Found slot1 facts) ≡ 0x0F

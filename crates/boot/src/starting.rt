@@ -114,7 +114,7 @@ fn register_found(settings: Settings, readings: [Reading; 2], slot: Slot, facts:
     if any_good(readings) {
         return settings.efuse;
     }
-    raise(settings.chip, settings.efuse, facts.version)
+    raise(settings.board.chip, settings.efuse, facts.version)
 }
 
 // Whether a sector holds a good record.

@@ -77,9 +77,9 @@ image-1 =
 
 -- ---- the apps
 
-slot-accepted : check exampleSlot (exampleSettings .chip) .reply ≡ AcceptedImage oneSegmentFacts
+slot-accepted : check exampleSlot (exampleSettings .board) .reply ≡ AcceptedImage oneSegmentFacts
 unfolding exampleSlot OneSegmentAccepted TailIgnored
-slot-accepted = tail-ignored (oneSegment 0) (filled 3792 0) (exampleSettings .chip) oneSegmentFacts one-segment-accepted
+slot-accepted = tail-ignored (oneSegment 0) (filled 3792 0) (exampleSettings .board) oneSegmentFacts (one-segment-accepted 0)
 
 passes : (app : App) → image exampleList exampleFlash app ≡ exampleSlot → Passes exampleList exampleFlash exampleSettings app
 unfolding passing width onesIn

@@ -67,11 +67,11 @@ same-image list flash app =
     flash
 
 module _ (list : List ℕ) (flash : RefT (List ℕ)) (settings : Settings) (app : App)
-    (handed : RefT (List ℕ)) (by-list : part handed ≡ appPart list (part flash) app) (c : Checked) (found : viewed view c ≡ check (now handed) (settings .chip)) where
-  pub checked-image : check (image list (now flash) app) (settings .chip) .reply ≡ c
+    (handed : RefT (List ℕ)) (by-list : part handed ≡ appPart list (part flash) app) (c : Checked) (found : viewed view c ≡ check (now handed) (settings .board)) where
+  pub checked-image : check (image list (now flash) app) (settings .board) .reply ≡ c
   checked-image =
       reply-of view c _
-      (found ∙ ap (λ (p : Part). check (p .content) (settings .chip)) by-list ∙ ap (λ (s : List ℕ). check s (settings .chip)) (same-image list (part flash) app))
+      (found ∙ ap (λ (p : Part). check (p .content) (settings .board)) by-list ∙ ap (λ (s : List ℕ). check s (settings .board)) (same-image list (part flash) app))
 
   pub image-refused : (refusal : Refusal) → c ≡ Refused refusal → No ≡ passing list (now flash) settings app
   unfolding passing

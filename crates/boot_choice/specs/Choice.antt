@@ -45,7 +45,7 @@ held settings (Accepted facts) = cond (tooOld settings (facts .version)) No (Yes
 
 -- document 01's term *passes*: the image is accepted and, with anti-rollback on, its secure version is at least the eFuse version
 unfoldable pub passing : List ℕ → List ℕ → Settings → App → Passing
-passing list flash settings app = held settings (check (image list flash app) (settings .chip) .reply)
+passing list flash settings app = held settings (check (image list flash app) (settings .board) .reply)
 
 -- it does pass
 abbrev pub passed : Passing → Bool

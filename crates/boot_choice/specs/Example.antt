@@ -6,6 +6,7 @@ use mathlib.Core.List.{List, [], _∷_, _++_}
 use lib.ListN.{length, take, replicate}
 use Rattle.partitions.specs.declared.App.the-variants.{Factory, OtaSlot}
 use Rattle.partitions.specs.declared.Checked.the-variants.{Accepted}
+use Rattle.app_image.specs.Check.{boardOf}
 use Rattle.app_image.specs.Example.{oneSegment}
 use Rattle.boot_choice.specs.declared.Settings.{Settings}
 use Rattle.boot_choice.specs.Acceptance.{otadataSize, accepted}
@@ -29,7 +30,7 @@ exampleFlash = exampleSlot ++ filled 61440 0 ++ exampleSlot
 
 -- both protections are on; the eFuse version is 1, as that of the image
 abbrev pub exampleSettings : Settings
-exampleSettings = record { chip = record { 0 = 0 }; revision = record { 0 = 0 }; efuse = 1; rollback = true; «anti_rollback» = true }
+exampleSettings = record { board = boardOf 0 0; efuse = 1; rollback = true; «anti_rollback» = true }
 
 -- tests 1 to 3 pass, each slot passes, and factory, which is not listed, doesn't
 pub record ExampleNode : Type 0 where

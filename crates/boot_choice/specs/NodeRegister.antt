@@ -6,8 +6,8 @@ use Rattle.boot_choice.specs.declared.Settings.{Settings}
 
 -- the version that it holds
 abbrev pub eFuseVersion : Settings → ℕ
-eFuseVersion settings = version (width (settings .chip)) (settings .efuse)
+eFuseVersion settings = version (width (settings .board .chip)) (settings .efuse)
 
 -- the register raised to a version
 abbrev pub raisedTo : Settings → SecureVersion → ℕ
-raisedTo settings v = raised (width (settings .chip)) (settings .efuse) (v .0)
+raisedTo settings v = raised (width (settings .board .chip)) (settings .efuse) (v .0)

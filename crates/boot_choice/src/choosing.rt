@@ -25,7 +25,7 @@ pub fn passes(list: &[u32], flash: &[u8], settings: Settings, app: App) -> Passi
     ensures { λ r. ⌜ r ≡ passing (now (list .entry)) (now (flash .entry)) settings app ⌝ }
 {
     let image = app_part(list, flash, app);
-    let checked = app_image::check(image, settings.chip);
+    let checked = app_image::check(image, settings.board);
     let Checked::Accepted(facts) = checked else {
         return Passing::No;
     };
@@ -42,7 +42,7 @@ pub fn too_old(settings: Settings, of: SecureVersion) -> bool
     if !settings.anti_rollback {
         return false;
     }
-    of.0 < version(settings.chip, settings.efuse).0
+    of.0 < version(settings.board.chip, settings.efuse).0
 }
 
 // The choice, in document 01's order. Of a list that is refused nothing is chosen.

@@ -4,12 +4,12 @@ mod choosing;
 
 pub use acceptance::accept;
 pub use acceptance::accept_node;
+use app_image::Board;
 use app_image::Facts;
 pub use choosing::choose;
 pub use choosing::chosen;
 pub use choosing::passes;
 pub use choosing::too_old;
-use efuse::ChipId;
 use otadata::Slot;
 
 // The size of otadata: two sectors.
@@ -18,13 +18,9 @@ pub const OTADATA_SIZE: usize = 8192;
 // The reply number of document 01 that this layer gives, besides those of the layers below.
 pub const WRONG_SETTINGS: u32 = 3;
 
-// A chip's revision: major × 100 + minor.
-pub struct Revision(pub u16);
-
-// What is set on a node: the chip id, the chip's revision, the eFuse register, and which of the two protections are on.
+// What is set on a node: its board, the eFuse register, and which of the two protections are on.
 pub struct Settings {
-    pub chip: ChipId,
-    pub revision: Revision,
+    pub board: Board,
     pub efuse: u32,
     pub rollback: bool,
     pub anti_rollback: bool,

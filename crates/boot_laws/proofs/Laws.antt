@@ -19,7 +19,7 @@ use Rattle.otadata.proofs.Booleans.{true-is-not-false}
 use Rattle.partitions.specs.declared.App.{App}
 use Rattle.partitions.specs.declared.Checked.{Checked}
 use Rattle.app_image.specs.declared.Facts.{Facts}
-use Rattle.app_image.specs.Check.{check}
+use Rattle.app_image.specs.Check.{check, AcceptedFits}
 use Rattle.boot_choice.specs.declared.Settings.{Settings}
 use Rattle.boot_choice.specs.declared.Passing.the-variants.{Yes}
 use Rattle.boot_choice.specs.declared.Choice.{Choice}
@@ -30,7 +30,7 @@ use Rattle.boot.specs.declared.Reply.the-variants.{Refused, Starts}
 use Rattle.boot_choice.specs.Choice.{image, passing, choice}
 use Rattle.boot.specs.Boot.{view, Outcome, marked, usedSector, awaiting, replyTo, fromMarks, byTests, refused, boot, passedTests, Accepts}
 use Rattle.boot_laws.specs.Laws.{UsableAt, ThroughUsable, NotBelow, StartsNotBelow, Never, NeverLaw, OfImage, ImageLaw, ViewLaw, AcceptanceLaw, RefusalKeeps, RefusalLaw, Change, OtherState, OnlyStates, StateLaw}
-use Rattle.app_image.proofs.Acceptance.{within}
+use Rattle.app_image.proofs.Acceptance.{within, accepted-fits}
 use Rattle.boot.proofs.ChoiceLaws.{held-by, passing-accepted, Sound, nothing, through, by-factory, found, choice-sound}
 use Rattle.boot_laws.proofs.Changes.{Restates, KeptOr, marks, no-marks, awaits, awaiting-size, no-awaiting}
 use Rattle.boot.proofs.Replies.{same-start, no-start, passing-start, afterMarks, replies}
@@ -44,7 +44,7 @@ not-below : (list flash : List ℕ) (settings : Settings) (app : App) (facts : F
     → passing list flash settings app ≡ Yes facts → NotBelow list flash settings app
 unfolding passing
 not-below list flash settings app facts e =
-    let (is, right) = held-by settings (check (image list flash app) (settings .chip) .reply) facts e in
+    let (is, right) = held-by settings (check (image list flash app) (settings .board) .reply) facts e in
     record {
       facts = facts;
       accepted = is;
@@ -136,14 +136,16 @@ never-law list flash o settings =
 
 pub of-image : (list flash : List ℕ) (settings : Settings) (app : App) (facts : Facts) → passing list flash settings app ≡ Yes facts
     → (size entry : ℕ) → size ≡ facts .length → entry ≡ facts .entry → OfImage list flash settings app size entry
+unfolding AcceptedFits
 of-image list flash settings app facts p size entry same-length same-entry =
     let accepted = passing-accepted list flash settings app facts p in
     record {
       facts = facts;
       accepted = accepted;
+      fits = accepted-fits (image list flash app) (settings .board) facts accepted;
       same-length = same-length;
       same-entry = same-entry;
-      within = rw same-length (within (image list flash app) (settings .chip) facts accepted);
+      within = rw same-length (within (image list flash app) (settings .board) facts accepted);
     }
 
 pub image-law : ImageLaw

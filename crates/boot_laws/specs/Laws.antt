@@ -17,7 +17,7 @@ use Rattle.sectors.specs.Sectors.{sectorReading, sectorAt, readingsOf}
 use Rattle.partitions.specs.declared.App.{App}
 use Rattle.app_image.specs.declared.Facts.{Facts}
 use Rattle.app_image.specs.declared.Checked.the-variants.{Accepted}
-use Rattle.app_image.specs.Check.{check}
+use Rattle.app_image.specs.Check.{check, Fits}
 use Rattle.boot_choice.specs.declared.Settings.{Settings}
 use Rattle.boot.specs.declared.Refusal.{Refusal}
 use Rattle.boot.specs.declared.Start.{Start}
@@ -41,7 +41,7 @@ ThroughUsable o out =
 -- an app whose image is accepted and, with anti-rollback on, not below the eFuse version
 pub record NotBelow (list flash : List ℕ) (settings : Settings) (app : App) : Type 0 where
   pub facts : Facts
-  pub accepted : check (image list flash app) (settings .chip) .reply ≡ Accepted facts
+  pub accepted : check (image list flash app) (settings .board) .reply ≡ Accepted facts
   pub not-below : settings .«anti_rollback» ≡ true → eFuseVersion settings ≤ facts .version .0
 
 -- a boot that starts an app starts such a one
@@ -58,10 +58,12 @@ NeverLaw = (list flash o : List ℕ) (settings : Settings) → Never list flash 
 
 -- ---- what a reply says of the image
 
--- the length and the entry address are those of an app's image, which is accepted and ends within the app's part of the flash
+-- the length and the entry address are those of an app's image, which is accepted, so that it fits the board, and ends within the app's part
+-- of the flash
 pub record OfImage (list flash : List ℕ) (settings : Settings) (app : App) (size entry : ℕ) : Type 0 where
   pub facts : Facts
-  pub accepted : check (image list flash app) (settings .chip) .reply ≡ Accepted facts
+  pub accepted : check (image list flash app) (settings .board) .reply ≡ Accepted facts
+  pub fits : Fits (image list flash app) (settings .board)
   pub same-length : size ≡ facts .length
   pub same-entry : entry ≡ facts .entry
   pub within : size ≤ length (image list flash app)

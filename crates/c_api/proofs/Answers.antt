@@ -14,7 +14,7 @@ use Rattle.otadata.specs.declared.Verdict.the-variants.{Good}
 use Rattle.otadata.specs.declared.Reading.{Reading}
 use Rattle.otadata.specs.Records.{stateWord, verdictView, view as Record·view}
 use Rattle.sectors.specs.Sectors.{readSector, Part, activePart}
-use Rattle.efuse.specs.declared.ChipId.{ChipId}
+use Rattle.app_image.specs.declared.Board.{Board}
 use Rattle.partitions.specs.declared.Listing.{Listing}
 use Rattle.partitions.specs.declared.Checked.{Checked as List·Checked}
 use Rattle.partitions.specs.declared.Checked.the-variants.{Refused as List·Refused, Accepted as List·Accepted}
@@ -65,11 +65,11 @@ module _ (list : List ℕ) (capacity : ℕ) (c : List·Checked) (is : viewed Lis
 
 -- ---- an image
 
-module _ (image : List ℕ) (chip : ChipId) (c : Image·Checked) (is : viewed Image·view c ≡ check image chip) where
+module _ (image : List ℕ) (board : Board) (c : Image·Checked) (is : viewed Image·view c ≡ check image board) where
   pub image-refused : (refusal : Refusal) → c ≡ Image·Refused refusal
-      → answer (refusal .number) (refusal .place ∷ 0 ∷ 0 ∷ 0 ∷ []) ≡ toC 4 (check image chip .answer)
+      → answer (refusal .number) (refusal .place ∷ 0 ∷ 0 ∷ 0 ∷ []) ≡ toC 4 (check image board .answer)
   image-refused refusal e = simp (← is, e)
 
   pub image-accepted : (facts : Facts) → c ≡ Image·Accepted facts
-      → answer 0 (facts .length ∷ facts .entry ∷ facts .version .0 ∷ facts .segments ∷ []) ≡ toC 4 (check image chip .answer)
+      → answer 0 (facts .length ∷ facts .entry ∷ facts .version .0 ∷ facts .segments ∷ []) ≡ toC 4 (check image board .answer)
   image-accepted facts e = simp (← is, e)

@@ -68,7 +68,7 @@ module _ (list flash o : List ℕ) (settings : Settings) where
         omega (
           arith,
           of .same-length,
-          within (image list flash (start .app)) (settings .chip) (of .facts) accepted,
+          within (image list flash (start .app)) (settings .board) (of .facts) accepted,
           part-fits list (record { place = (0, 0); content = flash }) (start .app),
         )
 

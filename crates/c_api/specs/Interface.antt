@@ -10,6 +10,7 @@ use Rattle.otadata.specs.declared.Slot.{Slot}
 use Rattle.efuse.specs.declared.ChipId.{ChipId}
 use Rattle.partitions.specs.declared.App.{App}
 use Rattle.partitions.specs.declared.App.the-variants.{Factory, OtaSlot}
+use Rattle.app_image.specs.Check.{boardOf}
 use Rattle.boot_choice.specs.declared.Settings.{Settings}
 use Rattle.update.specs.Replies.{Outcome as Update·Outcome, InvalidOutcome}
 
@@ -43,7 +44,7 @@ chipOf id = record { 0 = id }
 
 abbrev pub settingsOf : ℕ → ℕ → ℕ → ℕ → ℕ → Settings
 settingsOf chip revision efuse rollback anti =
-    record { chip = chipOf chip; revision = record { 0 = revision }; efuse = efuse; rollback = flag rollback; «anti_rollback» = flag anti }
+    record { board = boardOf chip revision; efuse = efuse; rollback = flag rollback; «anti_rollback» = flag anti }
 
 -- the slot of a number
 abbrev pub slotOf : ℕ → Slot

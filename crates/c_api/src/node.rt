@@ -5,10 +5,11 @@ ghost use Rattle.sectors.specs.declared.Holder.the-variants.{Sector};
 ghost use Rattle.partitions.specs.PartitionList.{maxFlash};
 ghost use Rattle.boot.specs.Boot.{sectorValue, startValues, boot as Boot·boot};
 ghost use Rattle.c_api.specs.Interface.{answer, settingsOf, outcome, ofCall};
+use app_image::Board;
+use app_image::Revision;
 use boot::Reply;
 use boot::Start;
 use boot::boot;
-use boot_choice::Revision;
 use boot_choice::Settings;
 use efuse::ChipId;
 use partitions::App;
@@ -53,8 +54,10 @@ pub(crate) fn settings_of(chip: u16, revision: u16, efuse: u32, rollback: u8, an
     ensures { λ r. ⌜ r ≡ settingsOf chip revision efuse rollback anti ⌝ }
 {
     Settings {
-        chip: ChipId(chip),
-        revision: Revision(revision),
+        board: Board {
+            chip: ChipId(chip),
+            revision: Revision(revision),
+        },
         efuse,
         rollback: rollback != 0,
         anti_rollback: anti != 0,

@@ -1,7 +1,7 @@
 -- Laws of the check word: feeding a sequence is stepping the register that holds it, w bits of a register at a time, and no two
 -- 32-bit sequences have the same check word.
 -- Assumes nothing.
-use Prim.Native.Nat.{ℕ, zero, suc, _+_, _-_, _*_, _/_, _%_, _^_, _<_, _≤_}
+use Prim.Native.Nat.{ℕ, zero, suc, _+_, _*_, _/_, _%_, _^_, _<_, _≤_}
 use mathlib.Core.Path.{_≡_, refl, sym, ap, _∙_}
 use mathlib.Core.Logic.{_⊎_, inl, inr, ⊎-elim}
 use native.Mathlib.Nat.{add-assoc, zero-add, suc-add, mul-add, mod-lt, div-add-mod', two-pow-succ}

@@ -9,6 +9,7 @@ pub use records::make;
 pub use records::read;
 pub use records::sequence_of;
 pub use records::usable;
+pub use words::byte_at;
 pub use words::check_word;
 pub use words::word_at;
 pub use words::word_of;

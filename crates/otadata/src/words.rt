@@ -76,7 +76,7 @@ pub fn word_at(bytes: &[u8], at: usize) -> u32
 }
 
 // Byte i, or 0 past the end.
-fn byte_at(bytes: &[u8], i: usize) -> u8
+pub fn byte_at(bytes: &[u8], i: usize) -> u8
     ensures { λ r. ⌜ r ≡ getD (now (bytes .entry)) i 0 ⌝ }
 {
     if i < bytes.len() { bytes[i] } else { 0 }

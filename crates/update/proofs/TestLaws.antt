@@ -87,8 +87,8 @@ four-tests list capacity size settings s a before r is = is ∙ ap (slotTest s) 
 
 module _ (list : List ℕ) (flash : RefT (List ℕ)) (settings : Settings) (slot : Slot)
     (handed : RefT (List ℕ)) (by-list : part handed ≡ appPart list (part flash) (OtaSlot slot))
-    (c : ImageChecked) (found : viewed Image·view c ≡ check (now handed) (settings .chip)) where
-  its-check : check (image list (now flash) (OtaSlot slot)) (settings .chip) .reply ≡ c
+    (c : ImageChecked) (found : viewed Image·view c ≡ check (now handed) (settings .board)) where
+  its-check : check (image list (now flash) (OtaSlot slot)) (settings .board) .reply ≡ c
   its-check = checked-image list flash settings (OtaSlot slot) handed by-list c found
 
   pub image-unfit : (why : ImageRefusal) → c ≡ ImageRefused why → (own : ImageRefusal) → own ≡ refusalOf c

@@ -49,7 +49,7 @@ held settings (ImageAccepted facts) = cond (tooOld settings (facts .version)) (U
 
 -- 5 and 6, of the app of a slot
 unfoldable pub examined : List ℕ → List ℕ → Settings → Slot → Examined
-examined list flash settings s = held settings (check (image list flash (OtaSlot s)) (settings .chip) .reply)
+examined list flash settings s = held settings (check (image list flash (OtaSlot s)) (settings .board) .reply)
 
 -- 11: the active record is pending, with rollback on
 unfoldable pub unconfirmed : Settings → List Reading → Bool

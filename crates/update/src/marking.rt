@@ -116,7 +116,7 @@ fn register_raised(settings: Settings, of: SecureVersion) -> u32
     if !settings.anti_rollback {
         return settings.efuse;
     }
-    raise(settings.chip, settings.efuse, of)
+    raise(settings.board.chip, settings.efuse, of)
 }
 
 // Gives up the running app: the active record becomes invalid, if boot then has another app to start.

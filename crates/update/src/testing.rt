@@ -64,7 +64,7 @@ pub(crate) fn examine(list: &[u32], flash: &[u8], settings: Settings, slot: Slot
     ensures { λ r. ⌜ r ≡ examined (now (list .entry)) (now (flash .entry)) settings slot ⌝ }
 {
     let image = app_part(list, flash, App::OtaSlot(slot));
-    let checked = app_image::check(image, settings.chip);
+    let checked = app_image::check(image, settings.board);
     let ImageChecked::Accepted(facts) = checked else {
         return Examined::Unfit(Refusal {
             number: IMAGE_REFUSED,

@@ -109,7 +109,7 @@ KeepsRegister settings t = (why : Refusal) → t ≡ Unfit why → why .register
 
 examined-register : (list flash : List ℕ) (settings : Settings) (s : Slot) → KeepsRegister settings (examined list flash settings s)
 unfolding examined
-examined-register list flash settings s = held-register settings (check (image list flash (OtaSlot s)) (settings .chip) .reply)
+examined-register list flash settings s = held-register settings (check (image list flash (OtaSlot s)) (settings .board) .reply)
 
 -- ---- a test, then the rest of the call: what holds of its refusals and of the rest holds of both together
 

@@ -63,7 +63,7 @@ fit-of (Fit f) facts e = let same : f ≡ facts = cc in ap Fit same
 module _ (list flash : List ℕ) (settings : Settings) (s : Slot) (facts : Facts) where
   same-passing : passingOf (examined list flash settings s) ≡ passing list flash settings (OtaSlot s)
   unfolding examined passing
-  same-passing = held-by settings (check (image list flash (OtaSlot s)) (settings .chip) .reply)
+  same-passing = held-by settings (check (image list flash (OtaSlot s)) (settings .board) .reply)
 
   pub fit-passes : examined list flash settings s ≡ Fit facts → passing list flash settings (OtaSlot s) ≡ Yes facts
   fit-passes e = sym same-passing ∙ ap passingOf e

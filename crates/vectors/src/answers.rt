@@ -39,7 +39,8 @@ pub(crate) fn answer(case: &[u8], list: &[u32], flash: &[u8]) -> [u32; 5] {
         9 => of_part(app_part(list, flash, App::Factory)),
         10 => {
             let mut out = [0u64; 4];
-            let number = ota_check_image(flash, chip, &mut out);
+            let revision = (word_at(case, 128) % 65536) as u16;
+            let number = ota_check_image(flash, chip, revision, &mut out);
             [
                 number,
                 (out[0] % 4294967296) as u32,

@@ -124,7 +124,7 @@ worked-examples = (
           set-refused _ _ _ (record { below = omega arith; another = refl }) refl,
           (
             boots-holds _ _ _ _ _ _ refl valid-not-pending refl refl,
-            (refl, (refl, (refl, (refl, (refl, (refl, (refl, (refl, tt)))))))),
+            (refl, (refl, (refl, (refl, (refl, (refl, (refl, (refl, (refl, (refl, (refl, (refl, (refl, tt))))))))))))),
           ),
         ),
       ),

@@ -1,6 +1,6 @@
 -- The examples of document 01 that are marked P, in its order, and those of document 02, as one table; and what it means that an example
 -- holds.
-use Prim.Native.Nat.{ℕ, _-_, _<_}
+use Prim.Native.Nat.{ℕ, _-_, _/_, _%_, _<_}
 use mathlib.Core.Path.{_≡_}
 use mathlib.Core.Bool.{true}
 use mathlib.Core.List.{List, [], _∷_, _++_}
@@ -20,7 +20,7 @@ use Rattle.partitions.specs.declared.App.the-variants.{OtaSlot}
 use Rattle.partitions.specs.PartitionList.{slotCount}
 use Rattle.app_image.specs.declared.Facts.{Facts}
 use Rattle.app_image.specs.Layout.{segments, stop, checksumPlace, wholeLength, checksum}
-use Rattle.app_image.specs.Check.{check}
+use Rattle.app_image.specs.Check.{boardOf, check}
 use Rattle.app_image.specs.Example.{oneSegment}
 use Rattle.boot_choice.specs.declared.Settings.{Settings}
 use Rattle.boot_choice.specs.Acceptance.{otadataSize}
@@ -131,6 +131,14 @@ layout flag =
 abbrev pub forH2 : ℕ → ℕ → List ℕ
 forH2 v sum = setAt (setAt (setAt (oneSegment 0) 12 (esp32h2 .0)) 36 v) 303 sum
 
+-- the image of one segment, with a minimum and a maximum revision
+abbrev pub forRevisions : ℕ → ℕ → List ℕ
+forRevisions least most = setAt (setAt (setAt (setAt (oneSegment 0) 15 (least % 256)) 16 (least / 256)) 17 (most % 256)) 18 (most / 256)
+
+-- its check on the ESP32 in revision 301
+abbrev pub on301 : ℕ → ℕ → Answer
+on301 least most = check (forRevisions least most) (boardOf (esp32 .0) 301) .answer
+
 -- ---- the table
 
 abbrev pub table : List Example
@@ -155,11 +163,17 @@ table =
     -- e = 0x89B7C: checksum at 0x89B7F, length with digest 564,128
     ∷ value (gives (checksumPlace 0x89B7C ∷ wholeLength 1 0x89B7C ∷ [])) (gives (0x89B7F ∷ 564128 ∷ []))
     -- document 02, order 6, on the ESP32-H2: version 16 is accepted, version 17 refused with 29
-    ∷ value (check (forH2 16 0xFF) esp32h2 .answer) (gives (304 ∷ 0 ∷ 16 ∷ 1 ∷ []))
-    ∷ value (check (forH2 17 0xFE) esp32h2 .answer) (record { number = 29; values = 36 ∷ [] })
+    ∷ value (check (forH2 16 0xFF) (boardOf (esp32h2 .0) 0) .answer) (gives (304 ∷ 0 ∷ 16 ∷ 1 ∷ []))
+    ∷ value (check (forH2 17 0xFE) (boardOf (esp32h2 .0) 0) .answer) (record { number = 29; values = 36 ∷ [] })
     -- 0x0000FFFF raised to 17: unchanged; 0xFFFF0000 holds version 0, and raised to 1 it is 0xFFFF0001
     ∷ value (gives (raised (width esp32h2) 0x0000FFFF 17 ∷ [])) (gives (0x0000FFFF ∷ []))
     ∷ value (gives (version (width esp32h2) 0xFFFF0000 ∷ raised (width esp32h2) 0xFFFF0000 1 ∷ [])) (gives (0 ∷ 0xFFFF0001 ∷ []))
+    -- order 10, in revision 301: minimum and maximum of 301; a minimum above; a maximum below, which 0 and 65,535 are not
+    ∷ value (on301 301 301) (gives (304 ∷ 0 ∷ 1 ∷ 1 ∷ []))
+    ∷ value (on301 302 0) (record { number = 31; values = 15 ∷ [] })
+    ∷ value (on301 0 300) (record { number = 31; values = 15 ∷ [] })
+    ∷ value (on301 0 0) (gives (304 ∷ 0 ∷ 1 ∷ 1 ∷ []))
+    ∷ value (on301 0 65535) (gives (304 ∷ 0 ∷ 1 ∷ 1 ∷ []))
     ∷ []
 
 -- the claim

@@ -2,6 +2,7 @@
 //! input, 256 bytes each, and prints what `tests/vectors/cases.py` says of each.
 
 use ota_tests::ffi::{self, Node, Settings};
+use ota_tests::settings::Board;
 use std::fmt::Write as _;
 use std::io::{self, Read, Write};
 
@@ -30,7 +31,8 @@ impl Case<'_> {
 
     fn settings(&self) -> Settings {
         let [rollback, anti_rollback] = [self.0[1] & 1, self.0[1] >> 1 & 1];
-        Settings { chip_id: self.half(), revision: self.half_at(128), efuse: self.word(4), rollback, anti_rollback }
+        let board = Board { chip_id: self.half(), revision: self.half_at(128) };
+        Settings { board, efuse: self.word(4), rollback, anti_rollback }
     }
 }
 

@@ -1,5 +1,6 @@
 //! Each call of the library beside the model's, on the same bytes.
 
+use crate::revisions::{self, Limits};
 use crate::tally::Tally;
 use ota_tests::boot::{self, App, Started};
 use ota_tests::ffi;
@@ -10,16 +11,15 @@ use ota_tests::record::{self, State, RECORD_SIZE};
 use ota_tests::refusal::{number_of, Refusal};
 use ota_tests::rng::Rng;
 use ota_tests::sector::{self, SECTOR_SIZE, STORES};
-use ota_tests::settings::{self, Settings};
+use ota_tests::settings::{self, Board, Settings};
 use ota_tests::update::{self, Marked};
 use std::fmt::{Debug, Write};
 
-/// The ways to a reply that gives an image.
-const WITH_IMAGE: [&str; 10] = [
-    "boot: through the active record",
-    "boot: through the other record",
-    "boot: factory",
-    "boot: by the search",
+/// The ways of a boot to an app.
+pub const WAYS: [&str; 4] = ["through the active record", "through the other record", "factory", "by the search"];
+
+/// The ways to a reply that gives an image, besides those of a boot.
+const WITH_IMAGE: [&str; 6] = [
     "set_boot: named already",
     "set_boot: sector 0 rewritten",
     "set_boot: sector 1 rewritten",
@@ -47,9 +47,11 @@ pub fn to_be_met() -> Vec<String> {
         things.extend(ways.map(|way| format!("{way}, {kind}")));
         things.extend(["set_boot", "mark_valid"].map(|call| format!("{call}: 6, {kind}")));
     }
-    things.extend(WITH_IMAGE.iter().flat_map(|way| ["no digest", "digest"].map(|digest| format!("{way}, {digest}"))));
-    let with_settings = ["boot", "set_boot", "mark_valid", "mark_invalid", "next_slot"];
-    things.extend(with_settings.map(|call| format!("{call}: done, and again with another revision")));
+    for digest in ["no digest", "digest"] {
+        things.extend(WAYS.map(|way| format!("boot: {way}, {digest}")));
+        things.extend(WITH_IMAGE.map(|way| format!("{way}, {digest}")));
+    }
+    things.extend(revisions::to_be_met());
     things.extend(Drawn::all().iter().map(|drawn| format!("read_sector: {}", drawn.name())));
     things.extend(
         [
@@ -77,6 +79,7 @@ pub fn to_be_met() -> Vec<String> {
             "next_slot: from factory",
             "next_slot: from factory, not listed",
             "next_slot: from the last slot",
+            "next_slot: done, and again with another revision",
         ]
         .map(String::from),
     );
@@ -294,31 +297,56 @@ impl Run {
     }
 
     fn check_image(&mut self) {
-        let (image, mut chip_id) = generate::lone_image(&mut self.rng);
+        let (image, mut board) = generate::lone_image(&mut self.rng);
         if self.rng.chance(3) {
-            chip_id ^= 1 << self.rng.below(16);
+            board.chip_id ^= 1 << self.rng.below(16);
+        }
+        if self.rng.chance(3) {
+            board.revision ^= 1 << self.rng.below(16);
         }
         let lent = image.clone();
-        let library = with_out(&mut self.rng, |out| ffi::check_image(&lent, chip_id, out));
-        let model = match image::check(&image, chip_id) {
+        let library = with_out(&mut self.rng, |out| ffi::check_image(&lent, board, out));
+        let model = match image::check(&image, board) {
             Ok(facts) => (0, [facts.length, facts.entry.into(), facts.version.into(), facts.segments.into()]),
             Err(refusal) => (refusal.number, [refusal.place, 0, 0, 0]),
         };
-        let inputs = (chip_id, image.len(), hex(&image[..image.len().min(400)]));
+        let inputs = (board, image.len(), hex(&image[..image.len().min(400)]));
         self.same("check_image", &inputs, library, model);
         self.same_bytes("check_image", &inputs, &lent, &image);
         self.tally.number("check_image", model.0);
         if [0, 29].contains(&model.0) && (17..=32).contains(&record::word_at(&image, image::VERSION_PLACE)) {
             self.tally.met(format!("check_image: {}, version 17 to 32", model.0));
         }
+        self.tally_revision(&image, board, model.0);
+    }
+
+    /// How the revision lies to an image's minimum and maximum, and which other number the image gets first, or would get next.
+    fn tally_revision(&mut self, image: &[u8], board: Board, number: u32) {
+        let Some(limits) = Limits::of(image) else {
+            return;
+        };
+        let fits = limits.fit(board.revision);
+        assert!(number != if fits { 31 } else { 0 }, "the model gives {number}: {limits:?}, {board:?}");
+        if [0, 31].contains(&number) {
+            let edges = limits.edges(board.revision);
+            edges.for_each(|edge| self.tally.met(format!("check_image: {number}, {edge}")));
+        }
+        if (20..=23).contains(&number) && !fits {
+            self.tally.met(format!("check_image: {number} before 31"));
+        }
+        if number == 31 {
+            let mut without_limits = image.to_vec();
+            generate::limit_revisions(&mut without_limits, 0, 0);
+            if let Err(refusal) = image::check(&without_limits, board) {
+                self.tally.met(format!("check_image: 31 before {}", refusal.number));
+            }
+        }
     }
 
     /// The six calls on a node, each on the same bytes.
     fn node(&mut self) {
         let case = generate::node(&mut self.rng);
-        for (offset, image) in &case.images {
-            self.flash[*offset..][..image.len()].copy_from_slice(image);
-        }
+        self.lay_images(&case);
         let list = case.list.words.clone();
         self.boot(&case);
         self.set_boot(&case);
@@ -326,7 +354,6 @@ impl Run {
         self.mark_invalid(&case);
         self.state_query(&case);
         self.next_slot(&case);
-        self.another_revision(&case);
         let inputs = Inputs(&case);
         self.same("node, list", &inputs, &list, &case.list.words);
         for (offset, image) in &case.images {
@@ -363,19 +390,29 @@ impl Run {
         if marked(State::Pending) > 0 {
             self.tally.met("boot: a record marked pending");
         }
-        if let Ok(started) = reply {
-            let after = sector::readings(&otadata);
+        if let Ok(started) = &reply {
             if started.efuse != settings.efuse {
-                let kind = register_kind(settings.chip_id, settings.efuse);
+                let kind = register_kind(settings.board.chip_id, settings.efuse);
                 self.tally.met(format!("boot: by the search, register raised, {kind}"));
             }
-            let way = match (started.app, started.sector) {
-                (App::Factory, _) => "factory",
-                (_, None) => "by the search",
-                (_, sector) if sector == sector::active(&after) => "through the active record",
-                _ => "through the other record",
-            };
+            let way = way_of(started, &otadata);
             self.tally.met(format!("boot: {way}, {}", self.digest_of(case, started.app)));
+        }
+        self.boot_if_all_fit(case, &reply);
+    }
+
+    /// Whether the revision alone is why a boot starts no app or another one, and which way it would have gone.
+    fn boot_if_all_fit(&mut self, case: &NodeCase, reply: &Result<Started, Refusal>) {
+        let settings = plain(case.settings);
+        let (fitting, otadata) = self.if_all_fit(case, case.otadata.clone(), |flash, otadata| {
+            boot::boot(&case.list.words, flash, otadata, &settings)
+        });
+        if fitting != *reply {
+            let started = fitting.expect("what passed still does");
+            self.tally.met(format!("boot: {} but for the revision", way_of(&started, &otadata)));
+        }
+        if fitting.is_ok() && reply.is_err() {
+            self.tally.met("boot: 10 for the revision alone");
         }
     }
 
@@ -383,12 +420,15 @@ impl Run {
         let (library, bytes) =
             self.on_node(case, |node, rng| with_out(rng, |out| ffi::set_boot(node, case.settings, case.target, out)));
         let settings = plain(case.settings);
+        let model = |flash: &[u8], otadata: &mut [u8]| {
+            update::set_boot(&case.list.words, flash, otadata, &settings, case.target)
+        };
         let mut otadata = case.otadata.clone();
-        let reply = update::set_boot(&case.list.words, self.flash_of(case), &mut otadata, &settings, case.target);
+        let reply = model(self.flash_of(case), &mut otadata);
         let number = number_of(&reply);
         self.same("set_boot", &Inputs(case), library, (number, set_boot_out(&reply)));
         self.same_bytes("set_boot", &Inputs(case), &bytes, &otadata);
-        self.tally_with_image("set_boot", case, &reply);
+        self.tally_with_image("set_boot", case, &reply, model);
         if let Ok(image) = reply {
             if sector::active(&sector::readings(&case.otadata)).is_none() {
                 self.tally.met("set_boot: no active record");
@@ -414,17 +454,20 @@ impl Run {
         let (library, bytes) =
             self.on_node(case, |node, rng| with_out(rng, |out| ffi::mark_valid(node, case.settings, case.slot, out)));
         let settings = plain(case.settings);
+        let model = |flash: &[u8], otadata: &mut [u8]| {
+            update::mark_valid(&case.list.words, flash, otadata, &settings, case.slot)
+        };
         let mut otadata = case.otadata.clone();
-        let reply = update::mark_valid(&case.list.words, self.flash_of(case), &mut otadata, &settings, case.slot);
+        let reply = model(self.flash_of(case), &mut otadata);
         let number = number_of(&reply);
         self.same("mark_valid", &Inputs(case), library, (number, mark_valid_out(&reply, &settings)));
         self.same_bytes("mark_valid", &Inputs(case), &bytes, &otadata);
-        self.tally_with_image("mark_valid", case, &reply);
+        self.tally_with_image("mark_valid", case, &reply, model);
         if let Ok(marked) = reply {
             let way = written(&case.otadata, &otadata, "valid already");
             self.tally.met(format!("mark_valid: {way}, {}", self.digest_of(case, App::Slot(case.slot))));
             if marked.efuse != settings.efuse {
-                let kind = register_kind(settings.chip_id, settings.efuse);
+                let kind = register_kind(settings.board.chip_id, settings.efuse);
                 self.tally.met(format!("mark_valid: register raised, {kind}"));
             }
         }
@@ -440,6 +483,28 @@ impl Run {
         self.tally_node("mark_invalid", case, number);
         if let Some(number) = rewritten(&case.otadata, &otadata) {
             self.tally.met(format!("mark_invalid: sector {number} rewritten"));
+        }
+        if [0, 9].contains(&number) {
+            self.fallback_if_all_fit(case, number, otadata);
+        }
+    }
+
+    /// Whether the revision alone is why there is nothing to fall back to, or another app than there would be.
+    fn fallback_if_all_fit(&mut self, case: &NodeCase, number: u32, left: Vec<u8>) {
+        let (list, settings) = (&case.list.words, plain(case.settings));
+        if number == 9 {
+            let (fitting, _) = self.if_all_fit(case, left, |flash, otadata| {
+                update::mark_invalid(list, flash, otadata, &settings, case.slot)
+            });
+            if fitting.is_ok() {
+                self.tally.met("mark_invalid: 9 for the revision alone");
+            }
+        } else {
+            let boot = |flash: &[u8], otadata: &mut [u8]| boot::boot(list, flash, otadata, &settings);
+            let fallback = boot(self.flash_of(case), &mut left.clone());
+            if fallback != self.if_all_fit(case, left, boot).0 {
+                self.tally.met("mark_invalid: another fallback for the revision alone");
+            }
         }
     }
 
@@ -477,6 +542,7 @@ impl Run {
         self.same("next_slot", &Inputs(case), library, (number, [reply.unwrap_or(0)]));
         self.same_bytes("next_slot", &Inputs(case), &bytes, &case.otadata);
         self.tally_node("next_slot", case, number);
+        self.next_slot_again(case, (library, bytes));
         if number == 0 {
             match running {
                 App::Factory if case.list.words.chunks(3).all(|entry| entry[0] != 0) => {
@@ -489,47 +555,39 @@ impl Run {
         }
     }
 
-    /// Nothing reads the revision: in some of the cases each call with settings is made twice, with two of them.
-    fn another_revision(&mut self, case: &NodeCase) {
-        let rng = &mut self.rng;
-        if !rng.chance(25) {
-            return;
+    /// No image is read for the next slot: with another revision, number, `out` and bytes are the same.
+    fn next_slot_again(&mut self, case: &NodeCase, first: ((u32, [u32; 1]), Vec<u8>)) {
+        let mut settings = case.settings;
+        settings.board.revision ^= 1 << self.rng.below(16);
+        let second =
+            self.on_node(case, |node, rng| with_out(rng, |out| ffi::next_slot(node, settings, case.running, out)));
+        self.same("next_slot with another revision", &Inputs(case), second.0, first.0);
+        self.same_bytes("next_slot with another revision", &Inputs(case), &second.1, &first.1);
+        self.tally.calls += 1;
+        if first.0 .0 == 0 {
+            self.tally.met("next_slot: done, and again with another revision");
         }
-        let apart = generate::revision(rng).max(1);
-        let other = case.settings.revision.wrapping_add(apart);
-        let NodeCase { slot, target, running, .. } = *case;
-        self.twice("boot", case, other, |node, settings, rng| with_out(rng, |out| ffi::boot(node, settings, out)));
-        self.twice("set_boot", case, other, |node, settings, rng| {
-            with_out(rng, |out| ffi::set_boot(node, settings, target, out))
-        });
-        self.twice("mark_valid", case, other, |node, settings, rng| {
-            with_out(rng, |out| ffi::mark_valid(node, settings, slot, out))
-        });
-        self.twice("mark_invalid", case, other, |node, settings, _| {
-            (ffi::mark_invalid(node, settings, slot), [0_u32; 0])
-        });
-        self.twice("next_slot", case, other, |node, settings, rng| {
-            with_out(rng, |out| ffi::next_slot(node, settings, running, out))
-        });
     }
 
-    /// With the case's revision and with another one, number, `out` and bytes are the same.
-    fn twice<T: Garbage, const N: usize>(
-        &mut self,
-        call: &'static str,
-        case: &NodeCase,
-        revision: u16,
-        library: impl Fn(ffi::Node, ffi::Settings, &mut Rng) -> (u32, [T; N]),
-    ) {
-        let both = [case.settings, ffi::Settings { revision, ..case.settings }];
-        let [first, second] = both.map(|settings| self.on_node(case, |node, rng| library(node, settings, rng)));
-        let name = format!("{call} with revision {revision}");
-        self.same(&name, &Inputs(case), second.0, first.0);
-        self.same_bytes(&name, &Inputs(case), &second.1, &first.1);
-        self.tally.calls += 2;
-        if first.0 .0 == 0 {
-            self.tally.met(format!("{call}: done, and again with another revision"));
+    fn lay_images(&mut self, case: &NodeCase) {
+        for (offset, image) in &case.images {
+            self.flash[*offset..][..image.len()].copy_from_slice(image);
         }
+    }
+
+    /// What the model gives where every image of the node fits, and how it leaves otadata. The images' limits are cleared meanwhile.
+    fn if_all_fit<R>(
+        &mut self,
+        case: &NodeCase,
+        mut otadata: Vec<u8>,
+        model: impl FnOnce(&[u8], &mut [u8]) -> R,
+    ) -> (R, Vec<u8>) {
+        for (offset, _) in &case.images {
+            generate::limit_revisions(&mut self.flash[*offset..], 0, 0);
+        }
+        let reply = model(self.flash_of(case), &mut otadata);
+        self.lay_images(case);
+        (reply, otadata)
     }
 
     /// Whether the image of an app that was accepted has a digest.
@@ -572,12 +630,24 @@ impl Run {
         }
     }
 
-    fn tally_with_image<T>(&mut self, call: &'static str, case: &NodeCase, reply: &Result<T, Refusal>) {
+    /// `model` gave the reply on the case's own images.
+    fn tally_with_image<T>(
+        &mut self,
+        call: &'static str,
+        case: &NodeCase,
+        reply: &Result<T, Refusal>,
+        model: impl FnOnce(&[u8], &mut [u8]) -> Result<T, Refusal>,
+    ) {
         self.tally_node(call, case, number_of(reply));
         match reply {
-            Err(Refusal::Image(refusal)) => self.tally.image_number(call, refusal.number),
+            Err(Refusal::Image(refusal)) => {
+                self.tally.image_number(call, refusal.number);
+                if self.if_all_fit(case, case.otadata.clone(), model).0.is_ok() {
+                    self.tally.met(format!("{call}: 5 for the revision alone"));
+                }
+            }
             Err(Refusal::TooOld) => {
-                let kind = register_kind(case.settings.chip_id, case.settings.efuse);
+                let kind = register_kind(case.settings.board.chip_id, case.settings.efuse);
                 self.tally.met(format!("{call}: 6, {kind}"));
             }
             _ => {}
@@ -612,8 +682,7 @@ fn assert_same<T: PartialEq + Debug>(seed: u64, case: u64, call: &str, inputs: &
 /// The settings as the model takes them.
 pub fn plain(settings: ffi::Settings) -> Settings {
     Settings {
-        chip_id: settings.chip_id,
-        revision: settings.revision,
+        board: settings.board,
         efuse: settings.efuse,
         rollback: settings.rollback != 0,
         anti_rollback: settings.anti_rollback != 0,
@@ -626,6 +695,17 @@ fn register_kind(chip_id: u16, efuse: u32) -> &'static str {
         32 => "32 bits",
         _ if efuse >> 16 == 0 => "16 bits",
         _ => "16 bits, ones above",
+    }
+}
+
+/// Which way a boot has gone that left otadata so.
+fn way_of(started: &Started, otadata: &[u8]) -> &'static str {
+    let [active, other, factory, search] = WAYS;
+    match (started.app, started.sector) {
+        (App::Factory, _) => factory,
+        (_, None) => search,
+        (_, sector) if sector == sector::active(&sector::readings(otadata)) => active,
+        _ => other,
     }
 }
 

@@ -5,23 +5,30 @@
 use crate::calls::{hex, plain};
 use ota_tests::boot::{boot, passes, App, Started};
 use ota_tests::ffi::{self, Node};
-use ota_tests::generate::{self, plain_node_of};
+use ota_tests::generate::{self, limit_revisions, plain_node_of};
 use ota_tests::image::Facts;
 use ota_tests::partition::{self, Partitions};
 use ota_tests::record::{make, Reading, Record, State, HIGHEST_SEQUENCE};
 use ota_tests::rng::Rng;
 use ota_tests::sector::{self, active, read, readings, OTADATA_SIZE, SECTOR_SIZE, STORES};
-use ota_tests::settings::Settings;
+use ota_tests::settings::{Board, Settings};
 
 /// The versions of the apps of four slots, of which the last is erased. Of more slots, the next four have the same, and so on.
 const SLOTS: [Option<u32>; 4] = [Some(3), Some(5), Some(1), None];
 
-const OFF: ffi::Settings = ffi::Settings { chip_id: 0, revision: 301, efuse: 0b10_0110, rollback: 0, anti_rollback: 0 };
+/// The minimum and the maximum revision of those that aren't erased.
+const LIMITS: [(u16, u16); 3] = [(0, 0), (300, 301), (301, 65_535)];
+
+const BOARD: Board = Board { chip_id: 0, revision: 301 };
+const OFF: ffi::Settings = ffi::Settings { board: BOARD, efuse: 0b10_0110, rollback: 0, anti_rollback: 0 };
 const ROLLBACK: ffi::Settings = ffi::Settings { rollback: 1, ..OFF };
 const ANTI_ROLLBACK: ffi::Settings = ffi::Settings { anti_rollback: 1, ..ROLLBACK };
 /// On a chip with sixteen version bits, and ones above them.
-const SIXTEEN_BITS: ffi::Settings = ffi::Settings { chip_id: 16, efuse: 0xFFFF_0000 | OFF.efuse, ..ANTI_ROLLBACK };
-const SETTINGS: [ffi::Settings; 4] = [OFF, ROLLBACK, ANTI_ROLLBACK, SIXTEEN_BITS];
+const SIXTEEN_BITS: ffi::Settings =
+    ffi::Settings { board: Board { chip_id: 16, ..BOARD }, efuse: 0xFFFF_0000 | OFF.efuse, ..ANTI_ROLLBACK };
+/// On a board that the third slot's app doesn't fit.
+const OLDER: ffi::Settings = ffi::Settings { board: Board { revision: 300, ..BOARD }, ..ROLLBACK };
+const SETTINGS: [ffi::Settings; 5] = [OFF, ROLLBACK, ANTI_ROLLBACK, SIXTEEN_BITS, OLDER];
 
 /// Random lists of rewrites, beside the rewrites that are cut at every place.
 const LISTS: usize = 1_000;
@@ -39,6 +46,7 @@ pub struct Cuts {
     pub reads_bad_check: u64,
     pub starts_rewritten: u64,
     pub starts_untouched: u64,
+    pub wrong_revision: u64,
 }
 
 pub fn run(seed: u64) -> Cuts {
@@ -53,6 +61,7 @@ pub fn run(seed: u64) -> Cuts {
         ("a bad check word", cuts.reads_bad_check),
         ("the rewritten record's app", cuts.starts_rewritten),
         ("the untouched record's app", cuts.starts_untouched),
+        ("the active record's app refused for the revision alone", cuts.wrong_revision),
     ] {
         assert!(count > 0, "no cut left {what}");
     }
@@ -88,7 +97,7 @@ fn every_cut(cuts: &mut Cuts) {
     for (turn, start) in starts.iter().enumerate() {
         for (step, new) in news.iter().enumerate() {
             // Each start meets each new record; sector, settings, factory and the other record take turns.
-            let settings = SETTINGS[(turn + step / 2) % 4];
+            let settings = SETTINGS[(turn + step / 2) % SETTINGS.len()];
             let factory = (step % 3 == 0 && settings.anti_rollback == 0).then_some(9);
             let other = others[(turn / 2 + step) % 2];
             let mut setup = Setup::new(4, start, (turn + step) % 2, &other, settings, factory);
@@ -176,8 +185,13 @@ impl Setup {
         factory: Option<u32>,
     ) -> Setup {
         let slots: Vec<Option<u32>> = SLOTS.into_iter().cycle().take(n).collect();
-        let (list, flash) = plain_node_of(settings.chip_id, &slots, factory);
+        let (list, mut flash) = plain_node_of(settings.board.chip_id, &slots, factory);
         let partitions = partition::check(&list, flash.len()).unwrap();
+        for (slot, part) in partitions.slots.iter().enumerate() {
+            if let Some((minimum, maximum)) = LIMITS.get(slot % SLOTS.len()) {
+                limit_revisions(&mut flash[part.clone()], *minimum, *maximum);
+            }
+        }
         let mut otadata = vec![0xFF; OTADATA_SIZE];
         otadata[number * SECTOR_SIZE..][..SECTOR_SIZE].copy_from_slice(start);
         otadata[(1 - number) * SECTOR_SIZE..][..SECTOR_SIZE].copy_from_slice(&sector_with(*other, 0xFF));
@@ -199,8 +213,13 @@ impl Setup {
 
     /// The facts of the image of a record's app, if the app passes.
     fn passing(&self, record: &Record) -> Option<Facts> {
+        self.passing_on(self.settings.board, record)
+    }
+
+    /// The same on another board.
+    fn passing_on(&self, board: Board, record: &Record) -> Option<Facts> {
         let app = App::Slot(record.slot(self.partitions.n()));
-        passes(&self.partitions, &self.flash, &self.model_settings(), app)
+        passes(&self.partitions, &self.flash, &Settings { board, ..self.model_settings() }, app)
     }
 
     /// Does the stores of a rewrite up to the cut `last`, one at a time on both sides, and calls `at` at each cut.
@@ -283,6 +302,10 @@ impl Setup {
         // Never through a record marked invalid or aborted, nor, with anti-rollback on, below the eFuse version.
         assert!(record.usable(), "{}", context());
         assert!(!self.model_settings().too_old(facts.version), "{}", context());
+        if let Some(first) = active(&marked).and_then(|number| marked[number]) {
+            let fits_301 = self.passing_on(Board { revision: 301, ..settings.board }, &first).is_some();
+            cuts.wrong_revision += u64::from(fits_301 && self.passing(&first).is_none());
+        }
         if through == *number {
             cuts.starts_rewritten += 1;
         } else {

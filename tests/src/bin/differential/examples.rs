@@ -1,17 +1,21 @@
-//! The examples of document 01, and those of document 02 with nine slots and more, of why a sector is empty, of sixteen version bits and
-//! of replies with the image's length and entry address, held on both sides: the model and the library.
+//! The examples of document 01, and those of document 02 with nine slots and more, of why a sector is empty, of sixteen version bits, of
+//! replies with the image's length and entry address and of wrong revisions, held on both sides: the model and the library.
 
 use crate::calls::{boot_out, mark_valid_out, plain, set_boot_out};
 use ota_tests::boot::{self, App};
 use ota_tests::ffi::{self, Node};
-use ota_tests::generate::{plain_image, plain_loadable, plain_node, plain_node_of, two_sectors};
+use ota_tests::generate::{
+    limit_revisions, plain_image, plain_loadable, plain_node, plain_node_of, two_sectors, LIMITS,
+};
 use ota_tests::image::Loadable;
 use ota_tests::record::{self, State};
 use ota_tests::refusal::number_of;
+use ota_tests::settings::Board;
 use ota_tests::{image, partition, sector, settings, update};
 use std::time::Instant;
 
-const ROLLBACK: ffi::Settings = ffi::Settings { chip_id: 0, revision: 301, efuse: 0, rollback: 1, anti_rollback: 0 };
+const BOARD: Board = Board { chip_id: 0, revision: 301 };
+const ROLLBACK: ffi::Settings = ffi::Settings { board: BOARD, efuse: 0, rollback: 1, anti_rollback: 0 };
 const ANTI: ffi::Settings = ffi::Settings { anti_rollback: 1, ..ROLLBACK };
 
 pub fn run() -> usize {
@@ -37,6 +41,13 @@ pub fn run() -> usize {
         refused_boots,
         refused_set_boots,
         refused_marks,
+        revisions,
+        bytes_of_the_revisions,
+        a_wrong_revision_beside_other_faults,
+        boots_by_revision,
+        set_boots_by_revision,
+        marks_by_revision,
+        fallbacks_by_revision,
     ];
     examples.iter().for_each(|example| example());
     examples.len()
@@ -342,7 +353,7 @@ fn versions() {
     for (chip_id, highest) in [(0, 32), (5, 16), (16, 16), (0x0100, 16), (0xFFFF, 16)] {
         for version in [0, 1, 15, 16, 17, 31, 32, 33, 0x0001_0000, 0xFFFF_FFFF] {
             let expected = if version <= highest { (0, 304) } else { (29, 36) };
-            check_both_for(chip_id, &plain_image(chip_id, version, 256, false), expected);
+            check_both_for(Board { chip_id, ..BOARD }, &plain_image(chip_id, version, 256, false), expected);
         }
     }
 }
@@ -351,8 +362,11 @@ fn versions() {
 const BELOW: Result<u32, u32> = Err(6);
 const TOO_HIGH: Result<u32, u32> = Err(29);
 
-/// A chip, a register, and the register raised to 16, 17 and 32, or why an app of that version doesn't pass.
-const REGISTERS: [(u16, u32, [Result<u32, u32>; 3]); 12] = [
+/// A register raised to 16, 17 and 32, or why an app of that version doesn't pass.
+type Raised = [Result<u32, u32>; 3];
+
+/// A chip, a register, and that register raised.
+const REGISTERS: [(u16, u32, Raised); 12] = [
     (0, 0, [Ok(0x0000_FFFF), Ok(0x0001_FFFF), Ok(!0)]),
     (0, 0x0000_FFFF, [Ok(0x0000_FFFF), Ok(0x0001_FFFF), Ok(!0)]),
     (0, 0xFFFF_0000, [Ok(0xFFFF_0000), Ok(0xFFFF_0001), Ok(!0)]),
@@ -370,7 +384,7 @@ const REGISTERS: [(u16, u32, [Result<u32, u32>; 3]); 12] = [
 /// Calls with each chip and register, with anti-rollback, and each of versions 16, 17, 32 and 33.
 fn by_version(call: impl Fn(ffi::Settings, u32, Result<u32, u32>)) {
     for (chip_id, efuse, raised) in REGISTERS {
-        let settings = ffi::Settings { chip_id, efuse, ..ANTI };
+        let settings = ffi::Settings { board: Board { chip_id, ..BOARD }, efuse, ..ANTI };
         for (version, raised) in [16, 17, 32].into_iter().zip(raised) {
             call(settings, version, raised);
         }
@@ -381,7 +395,7 @@ fn by_version(call: impl Fn(ffi::Settings, u32, Result<u32, u32>)) {
 /// Through a record the register stays; the last search raises it, while no sector holds a good record.
 fn boots_by_version() {
     by_version(|settings, version, raised| {
-        let (list, flash) = plain_node_of(settings.chip_id, &[None, Some(version)], None);
+        let (list, flash) = plain_node_of(settings.board.chip_id, &[None, Some(version)], None);
         let kept = raised.and(Ok(settings.efuse));
         for (record, sector, register) in
             [(made(2, State::Valid), 0, kept), (made(1, State::Invalid), 2, kept), (None, 2, raised)]
@@ -400,7 +414,7 @@ fn boots_by_version() {
 /// below the eFuse version with 6, and the register comes back.
 fn marks_by_version() {
     by_version(|settings, version, raised| {
-        let (list, flash) = plain_node_of(settings.chip_id, &[None, Some(version)], None);
+        let (list, flash) = plain_node_of(settings.board.chip_id, &[None, Some(version)], None);
         let before = two_sectors(made(2, State::Pending), None);
         let expected = match raised {
             Ok(register) => (0, [register.into(), 0, 0, LENGTHS[1].into(), ENTRIES[1].into()]),
@@ -413,15 +427,15 @@ fn marks_by_version() {
     });
 }
 
-/// The number, and the whole length or the place, for chip 0.
+/// The number, and the whole length or the place, for chip 0 of revision 301.
 fn check_both(image: &[u8], expected: (u32, u64)) {
-    check_both_for(0, image, expected);
+    check_both_for(BOARD, image, expected);
 }
 
-fn check_both_for(chip_id: u16, image: &[u8], expected: (u32, u64)) {
+fn check_both_for(board: Board, image: &[u8], expected: (u32, u64)) {
     let mut out = [9; 4];
-    let number = ffi::check_image(image, chip_id, &mut out);
-    let model = match image::check(image, chip_id) {
+    let number = ffi::check_image(image, board, &mut out);
+    let model = match image::check(image, board) {
         Ok(facts) => (0, facts.length),
         Err(refusal) => (refusal.number, refusal.place),
     };
@@ -594,5 +608,149 @@ fn refused_marks() {
     ] {
         let out = [settings.efuse.into(), image[0], image[1], 0, 0];
         assert_eq!(mark_valid_both(list, &flash, otadata, settings, slot, (number, out)), otadata);
+    }
+}
+
+/// What an image for other revisions gets.
+const WRONG_REVISION: (u32, u64) = (31, 15);
+
+fn with_revision(settings: ffi::Settings, revision: u16) -> ffi::Settings {
+    ffi::Settings { board: Board { revision, ..settings.board }, ..settings }
+}
+
+/// Every revision with each of several minimums and maximums.
+fn revisions() {
+    for (minimum, maximum, fitting) in LIMITS {
+        let mut image = plain_image(0, 1, 256, false);
+        limit_revisions(&mut image, minimum, maximum);
+        for revision in 0..=u16::MAX {
+            let fits = fitting.is_some_and(|[first, last]| (first..=last).contains(&revision));
+            let expected = if fits { (0, 304) } else { WRONG_REVISION };
+            check_both_for(Board { revision, ..BOARD }, &image, expected);
+        }
+    }
+}
+
+/// The minimum is the bytes 15 and 16, the maximum 17 and 18, the lower byte first. Those beside them aren't read.
+fn bytes_of_the_revisions() {
+    for beside in [0, 1, 0x7F, 0xFF] {
+        for (bytes, first, last) in [
+            ([0x2C, 0x01, 0x90, 0x01], 300, 400),
+            ([0x02, 0x01, 0x01, 0x02], 0x0102, 0x0201),
+            ([0x00, 0x01, 0x00, 0x02], 0x0100, 0x0200),
+            ([0x01, 0x00, 0x02, 0x00], 1, 2),
+        ] {
+            let mut image = plain_image(0, 1, 256, false);
+            (image[14], image[19]) = (beside, beside);
+            image[15..19].copy_from_slice(&bytes);
+            for (revision, expected) in
+                [(first, (0, 304)), (last, (0, 304)), (first - 1, WRONG_REVISION), (last + 1, WRONG_REVISION)]
+            {
+                check_both_for(Board { revision, ..BOARD }, &image, expected);
+            }
+        }
+    }
+}
+
+/// 20 to 23 come before 31, and 31 before 24 to 29.
+fn a_wrong_revision_beside_other_faults() {
+    let good = plain_image(0, 33, 256, false);
+    let fault = |place: usize, bits: u8| {
+        let mut image = good.clone();
+        image[place] ^= bits;
+        image
+    };
+    for (mut image, number) in [
+        (good[..287].to_vec(), 20),
+        (fault(0, 1), 21),
+        (fault(1, 0x10), 22),
+        (fault(1, 1), 22),
+        (fault(12, 1), 23),
+        (fault(13, 1), 23),
+        (fault(23, 2), 24),
+        (fault(28, 2), 25),
+        (fault(32, 1), 26),
+        (good[..303].to_vec(), 27),
+        (fault(303, 1), 28),
+        (good.clone(), 29),
+    ] {
+        let refused = image::check(&image, BOARD).unwrap_err();
+        assert_eq!(refused.number, number);
+        let expected = if number <= 23 { (number, refused.place) } else { WRONG_REVISION };
+        for (minimum, maximum) in [(302, 0), (0, 300), (302, 300)] {
+            limit_revisions(&mut image, minimum, maximum);
+            check_both(&image, expected);
+        }
+    }
+}
+
+/// Three slots and factory, of which slot 2 runs from revision 303 on, slot 1 from 302, factory from 301 and slot 0 from 300.
+fn limited_node() -> (Vec<u32>, Vec<u8>) {
+    let (list, mut flash) = plain_node(&[Some(1); 3], Some(1));
+    for (block, minimum) in [300, 302, 303, 301].into_iter().enumerate() {
+        limit_revisions(&mut flash[block * 0x1_0000..], minimum, 65_535);
+    }
+    (list, flash)
+}
+
+/// In each of the four ways an app that doesn't fit is passed over; the new record of one stays new.
+fn boots_by_revision() {
+    let (list, flash) = limited_node();
+    for (revision, state, [kind, slot, sector], place) in [
+        (303, State::Pending, [2, 2, 1], 2),
+        (302, State::New, [2, 1, 0], 1),
+        (301, State::New, [1, 0, 2], 3),
+        (300, State::New, [2, 0, 2], 0),
+    ] {
+        let otadata = two_sectors(valid(2), made(3, State::New));
+        let out = [kind, slot, sector, 0, LENGTHS[place], ENTRIES[place]];
+        let left = boot_both(&list, &flash, &otadata, with_revision(ROLLBACK, revision), (0, out));
+        assert_eq!(left, two_sectors(valid(2), made(3, state)));
+    }
+    let otadata = two_sectors(valid(2), made(3, State::New));
+    let nothing = (10, [0, 0, 2, 0, 0, 0]);
+    assert_eq!(boot_both(&list, &flash, &otadata, with_revision(ROLLBACK, 299), nothing), otadata);
+}
+
+/// Number 5 with image number 31, also for the slot that the active record names.
+fn set_boots_by_revision() {
+    let (list, flash) = limited_node();
+    let otadata = two_sectors(valid(2), None);
+    for (slot, minimum) in [(0, 300), (1, 302), (2, 303)] {
+        let fits = (0, [0, 0, LENGTHS[slot].into(), ENTRIES[slot].into()]);
+        let set = |revision, expected| {
+            set_boot_both(&list, &flash, &otadata, with_revision(ROLLBACK, revision), slot as u32, expected)
+        };
+        assert_eq!(set(minimum - 1, (5, [31, 15, 0, 0])), otadata);
+        assert_eq!(set(minimum, fits) == otadata, slot == 1);
+    }
+}
+
+fn marks_by_revision() {
+    let (list, flash) = limited_node();
+    for (slot, minimum) in [(0, 300), (1, 302), (2, 303)] {
+        let sequence = slot as u32 + 1;
+        let otadata = two_sectors(made(sequence, State::Pending), None);
+        let fits = (0, [0, 0, 0, LENGTHS[slot].into(), ENTRIES[slot].into()]);
+        let mark = |revision, expected| {
+            mark_valid_both(&list, &flash, &otadata, with_revision(ROLLBACK, revision), slot as u32, expected)
+        };
+        assert_eq!(mark(minimum - 1, (5, [0, 31, 15, 0, 0])), otadata);
+        assert_eq!(mark(minimum, fits), two_sectors(valid(sequence), None));
+    }
+}
+
+/// Slot 2 is given up, on a revision that its own app doesn't fit too: slot 1, factory or slot 0 is there to fall back to, or none.
+fn fallbacks_by_revision() {
+    let (list, flash) = limited_node();
+    let before = two_sectors(valid(2), valid(3));
+    for revision in [299, 300, 301, 302, 303, 304] {
+        let settings = with_revision(ROLLBACK, revision);
+        let (mut library, mut model) = (before.clone(), before.clone());
+        let number = ffi::mark_invalid(Node { list: &list, flash: &flash, otadata: &mut library }, settings, 2);
+        let reply = update::mark_invalid(&list, &flash, &mut model, &plain(settings), 2);
+        both(number, number_of(&reply), if revision < 300 { 9 } else { 0 });
+        let state = if revision < 300 { State::Valid } else { State::Invalid };
+        both(library, model, two_sectors(valid(2), made(3, state)));
     }
 }

@@ -6,6 +6,7 @@
 mod calls;
 mod cuts;
 mod examples;
+mod revisions;
 mod tally;
 
 use calls::Run;
@@ -49,6 +50,7 @@ fn main() {
     println!("{:>9}  as none, bad check", cuts.reads_bad_check);
     println!("{:>9}  boot starts the rewritten sector's app", cuts.starts_rewritten);
     println!("{:>9}  the untouched sector's app", cuts.starts_untouched);
+    println!("{:>9}  the active record's app is refused for the revision alone", cuts.wrong_revision);
     println!();
     run.tally.assert_met(&calls::to_be_met());
     println!(

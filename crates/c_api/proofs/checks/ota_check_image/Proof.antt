@@ -14,14 +14,14 @@ enum-known-checked c = search needs
 enum-known-checked-2 : tie.Need-enum-known-checked-2
 enum-known-checked-2 c = search needs
 
-cast-t11 : tie.Need-cast-t11
-cast-t11 c = search needs
+cast-t14 : tie.Need-cast-t14
+cast-t14 c = search needs
 
-cast-t12 : tie.Need-cast-t12
-cast-t12 c = search needs
+cast-t15 : tie.Need-cast-t15
+cast-t15 c = search needs
 
-cast-t13 : tie.Need-cast-t13
-cast-t13 c = search needs
+cast-t16 : tie.Need-cast-t16
+cast-t16 c = search needs
 
 returns : tie.Need-returns
 returns c = search image-refused
@@ -36,8 +36,8 @@ ota-check-image-spec =
     check-requires
     enum-known-checked
     enum-known-checked-2
-    cast-t11
-    cast-t12
-    cast-t13
+    cast-t14
+    cast-t15
+    cast-t16
     returns
     returns-2)
