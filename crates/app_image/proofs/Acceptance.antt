@@ -29,16 +29,16 @@ passed : (wrong : Bool) (number place : ℕ) (rest : Tested) → refuseIf wrong 
 passed false number place rest e = (refl, e)
 passed true number place rest e = absurd (let z : _≡_ {A = ℕ} 0 1 = cc in omega arith)
 
--- where the header passes, its segment count is right, and it fits the board
-pub record Passes (s : List ℕ) (board : Board) : Type 0 where
+-- a header that passes: its segment count is right, and it fits the board
+pub record RightHeader (s : List ℕ) (board : Board) : Type 0 where
   pub counted : countRight (segmentCount s) ≡ true
   pub fits : Fits s board
 
-header-passes : (s : List ℕ) (board : Board) → headerTests s board ≡ Passed → Passes s board
+right-header : (s : List ℕ) (board : Board) → headerTests s board ≡ Passed → RightHeader s board
 unfolding headerTests
-header-passes s board e =
-    let magical = passed (not (eqb (magic s) 0xE9)) 21 0 _ e in
-    let counted = passed _ 22 1 _ (magical .1) in
+right-header s board e =
+    let of-magic = passed (not (eqb (magic s) 0xE9)) 21 0 _ e in
+    let counted = passed _ 22 1 _ (of-magic .1) in
     let of-chip = passed _ 23 12 _ (counted .1) in
     let of-revision = passed _ 31 15 _ (of-chip .1) in
     let from-to = both _ (unlimited (maxRevision s) || leb (board .revision .0) (maxRevision s)) (not-false _ (of-revision .0)) in
@@ -54,7 +54,7 @@ header-passes s board e =
 
 pub record IsAccepted (s : List ℕ) (board : Board) (facts : Facts) : Type 0 where
   pub header : headerTests s board ≡ Passed
-  pub passes : Passes s board
+  pub right : RightHeader s board
   pub good : anyBad (segments s) ≡ false
   pub ends : fromEnd s board (endingOf s (segments s)) .reply ≡ Accepted facts
   pub with-descriptor : described s ≡ true
@@ -73,7 +73,7 @@ is-accepted s board facts e =
     let whole = passed _ 27 _ _ (descriptor .1) in
     record {
       header = header .0;
-      passes = header-passes s board (header .0);
+      right = right-header s board (header .0);
       good = passed _ 25 _ _ (walk .0) .0;
       ends = walk .1;
       with-descriptor = not-false _ (descriptor .0);
@@ -83,7 +83,7 @@ is-accepted s board facts e =
 
 pub accepted-fits : AcceptedFits
 unfolding AcceptedFits
-accepted-fits s board facts e = is-accepted s board facts e .passes .fits
+accepted-fits s board facts e = is-accepted s board facts e .right .fits
 
 -- it is as long as its bytes at most
 pub within : (s : List ℕ) (board : Board) (facts : Facts) → check s board .reply ≡ Accepted facts → facts .length ≤ length s
