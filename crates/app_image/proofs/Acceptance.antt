@@ -5,7 +5,7 @@ use mathlib.Core.Path.{_≡_, refl, subst}
 use mathlib.Core.Bool.{Bool, true, false, not, _||_}
 use mathlib.Core.List.{List}
 use native.Mathlib.Omega.{arith}
-use lib.Dec.{eqb, leb}
+use lib.Dec.{eqb, leb, ltb}
 use lib.ListN.{length}
 use borrow.Author.Tests.{eqb-true, leb-true, ltb-false, not-false}
 use Rattle.otadata.proofs.Booleans.{both}
@@ -16,8 +16,8 @@ use Rattle.app_image.specs.declared.Facts.{Facts}
 use Rattle.otadata.specs.Answers.{Answered}
 use Rattle.app_image.specs.declared.Checked.{Checked}
 use Rattle.app_image.specs.declared.Checked.the-variants.{Accepted}
-use Rattle.app_image.specs.Layout.{magic, segmentCount, maxRevision, digestFlag, segments, anyBad, stop, wholeLength}
-use Rattle.app_image.specs.Check.{refuseIf, then, countRight, unlimited, described, lengthTest, headerTests, segmentTest, endingOf, endTests, factsOf, fromSegments, fromEnd, check, Fits, AcceptedFits}
+use Rattle.app_image.specs.Layout.{magic, segmentCount, chipId, minRevision, maxRevision, digestFlag, segments, anyBad, stop, wholeLength}
+use Rattle.app_image.specs.Check.{refuseIf, then, countRight, unlimited, revisionFits, described, lengthTest, headerTests, segmentTest, endingOf, endTests, factsOf, fromSegments, fromEnd, check, Fits, AcceptedFits}
 
 -- the tests before an acceptance passed
 then-accepts : (t : Tested) (rest : Answered Checked) (facts : Facts) → then t rest .reply ≡ Accepted facts → (t ≡ Passed) × (rest .reply ≡ Accepted facts)
@@ -38,10 +38,12 @@ right-header : (s : List ℕ) (board : Board) → headerTests s board ≡ Passed
 unfolding headerTests
 right-header s board e =
     let of-magic = passed (not (eqb (magic s) 0xE9)) 21 0 _ e in
-    let counted = passed _ 22 1 _ (of-magic .1) in
-    let of-chip = passed _ 23 12 _ (counted .1) in
-    let of-revision = passed _ 31 15 _ (of-chip .1) in
-    let from-to = both _ (unlimited (maxRevision s) || leb (board .revision .0) (maxRevision s)) (not-false _ (of-revision .0)) in
+    let counted = passed (not (countRight (segmentCount s))) 22 1 _ (of-magic .1) in
+    let of-chip = passed (not (eqb (chipId s) (board .chip .0))) 23 12 _ (counted .1) in
+    let of-revision = passed (not (revisionFits s (board .revision))) 31 15 _ (of-chip .1) in
+    let least = leb (minRevision s) (board .revision .0) in
+    let most = unlimited (maxRevision s) || leb (board .revision .0) (maxRevision s) in
+    let from-to = both least most (not-false _ (of-revision .0)) in
     record {
       counted = not-false _ (counted .0);
       fits =
@@ -70,11 +72,11 @@ is-accepted s board facts e =
     let walk = then-accepts (segmentTest segs) (fromEnd s board (endingOf s segs)) facts (header .1) in
     let end = then-accepts (endTests s board (endingOf s segs)) _ facts (walk .1) in
     let descriptor = passed (not (described s)) 26 32 _ (end .0) in
-    let whole = passed _ 27 _ _ (descriptor .1) in
+    let whole = passed (ltb (length s) (wholeLength (digestFlag s) (stop segs))) 27 (stop segs) _ (descriptor .1) in
     record {
       header = header .0;
       right = right-header s board (header .0);
-      good = passed _ 25 _ _ (walk .0) .0;
+      good = passed (anyBad segs) 25 (stop segs) Passed (walk .0) .0;
       ends = walk .1;
       with-descriptor = not-false _ (descriptor .0);
       fits = ltb-false _ _ (whole .0);
