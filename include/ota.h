@@ -54,10 +54,15 @@ uint32_t ota_rewrite(uint8_t *sector, size_t sector_len, const uint8_t *record, 
 uint32_t ota_check_list(const uint32_t *list, size_t words, size_t flash_len, uint32_t out[2]);
 
 /* Checks an app image for a chip of that id and revision, which is major * 100 + minor. An image whose minimum revision is above
- * the chip's, or whose maximum is below it, is refused with 31; a maximum of 0 or 65,535 is no limit.
+ * the chip's, or whose maximum is below it, is refused with 31; a maximum of 0 or 65,535 is no limit. Where the digest
+ * flag is 1 and the appended digest is not the SHA-256 of all bytes before it, the image is refused with 30, the last of the tests,
+ * and the place is the first byte of the digest.
  * Returns 0 with out = {whole length, entry address, secure version, number of segments},
- * or 20 to 29 or 31 with out = {place, 0, 0, 0}. */
+ * or 20 to 31 with out = {place, 0, 0, 0}. */
 uint32_t ota_check_image(const uint8_t *image, size_t image_len, uint16_t chip_id, uint16_t revision, uint64_t out[4]);
+
+/* Fills `digest` with the SHA-256 of the bytes, as FIPS 180-4 defines it. Returns 0. */
+uint32_t ota_sha256(const uint8_t *bytes, size_t len, uint8_t digest[32]);
 
 /* ---- the eFuse register
  *

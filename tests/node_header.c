@@ -128,9 +128,11 @@ static void put_word(uint8_t *at, uint32_t word) {
         at[k] = (uint8_t)(word >> 8 * k);
 }
 
-/* An image for REVISION and later, with a digest and one segment of `size` bytes, a multiple of 16, zero but for its descriptor. `wrong`
- * spoils the checksum. */
-static void put_image(uint8_t *part, uint32_t entry, uint32_t size, uint8_t version, uint8_t wrong) {
+/* What is wrong with an image. */
+enum { NOTHING, CHECKSUM, DIGEST };
+
+/* An image for REVISION and later, with a digest and one segment of `size` bytes, a multiple of 16, zero but for its descriptor. */
+static void put_image(uint8_t *part, uint32_t entry, uint32_t size, uint8_t version, int wrong) {
     part[0] = 0xE9;
     part[1] = 1;
     put_word(part + 4, entry);
@@ -141,7 +143,10 @@ static void put_image(uint8_t *part, uint32_t entry, uint32_t size, uint8_t vers
     put_word(part + 28, size);
     put_word(part + 32, 0xABCD5432);
     part[36] = version;
-    part[32 + size + 15] = 0xEF ^ version ^ wrong; /* the checksum; the descriptor's four bytes cancel out */
+    part[32 + size + 15] = 0xEF ^ version ^ (wrong == CHECKSUM); /* the checksum; the descriptor's four bytes cancel out */
+    uint8_t *digest = part + 32 + size + 16;
+    ota_sha256(part, 32 + size + 16, digest);
+    digest[0] ^= wrong == DIGEST;
 }
 
 /* A sector with a record, or erased where the sequence is 0. */
@@ -157,8 +162,8 @@ static void put_record(uint8_t *sector, uint32_t sequence, uint32_t state) {
 /* The numbers that a call has given, a bit for each. */
 enum { BOOT, SET_BOOT, MARK_VALID, MARK_INVALID, STATE_QUERY, NEXT_SLOT, CALLS };
 static uint32_t numbers[CALLS];
-/* Whether these came up: a boot whose six values differ, and refusals with image number and place, also for the revision. */
-static int start_met, set_refusal_met, mark_refusal_met, set_revision_met, mark_revision_met;
+/* Whether these came up: a boot whose six values differ, and refusals with image number and place, also for the revision and the digest. */
+static int start_met, set_refusal_met, mark_refusal_met, set_revision_met, mark_revision_met, set_digest_met, mark_digest_met;
 
 static void prepare(void) {
     memcpy(otadata, before, sizeof before);
@@ -202,6 +207,7 @@ static void set_boot(void) {
     hold(reply.length == out[2] && reply.entry == out[3], "the image of a set-boot");
     set_refusal_met |= number == 5 && reply.image_number == 28 && reply.place == 559;
     set_revision_met |= number == 5 && reply.image_number == 31 && reply.place == 15;
+    set_digest_met |= number == 5 && reply.image_number == 30 && reply.place == 560;
 }
 
 static void mark_valid(void) {
@@ -215,6 +221,7 @@ static void mark_valid(void) {
     hold(reply.length == out[3] && reply.entry == out[4], "the image of a mark");
     mark_refusal_met |= number == 5 && reply.image_number == 28 && reply.place == 559;
     mark_revision_met |= number == 5 && reply.image_number == 31 && reply.place == 15;
+    mark_digest_met |= number == 5 && reply.image_number == 30 && reply.place == 560;
 }
 
 static void mark_invalid(void) {
@@ -279,19 +286,21 @@ static void all_records(void) {
 }
 
 int main(void) {
-    put_image(flash, 0x40080000, 256, 3, 0);
-    put_image(flash + UNIT, 0x40080200, 512, 3, 1);
-    put_image(flash + 2 * UNIT, 0x40080300, 384, 3, 0);
-    put_image(flash + 3 * UNIT, 0x40080400, 512, 3, 0);
+    put_image(flash, 0x40080000, 256, 3, NOTHING);
+    put_image(flash + 2 * UNIT, 0x40080300, 384, 3, NOTHING);
+    put_image(flash + 3 * UNIT, 0x40080400, 512, 3, NOTHING);
     /* With factory, without it, a list that is refused, otadata too short, and too long. */
     const ota_node nodes[] = {
         {list, 12, flash, FLASH, otadata, 2 * SECTOR},     {list + 3, 9, flash, FLASH, otadata, 2 * SECTOR},
         {list + 3, 6, flash, FLASH, otadata, 2 * SECTOR},  {list + 3, 9, flash, FLASH, otadata, 2 * SECTOR - 1},
         {list, 12, flash, FLASH, otadata, 2 * SECTOR + 1},
     };
-    for (size_t k = 0; k < sizeof nodes / sizeof *nodes; k++) {
-        given.node = nodes[k];
-        all_records();
+    for (int wrong = CHECKSUM; wrong <= DIGEST; wrong++) {
+        put_image(flash + UNIT, 0x40080200, 512, 3, wrong);
+        for (size_t k = 0; k < sizeof nodes / sizeof *nodes; k++) {
+            given.node = nodes[k];
+            all_records();
+        }
     }
 
     static const uint32_t expected[CALLS] = {
@@ -303,7 +312,8 @@ int main(void) {
         0x81F, /* next slot: 0 to 4, 11 */
     };
     hold(memcmp(numbers, expected, sizeof numbers) == 0, "the numbers that the calls gave");
-    hold(start_met && set_refusal_met && mark_refusal_met && set_revision_met && mark_revision_met, "the values that the calls gave");
+    hold(start_met && set_refusal_met && mark_refusal_met, "the values that the calls gave");
+    hold(set_revision_met && mark_revision_met && set_digest_met && mark_digest_met, "the image numbers that the calls gave");
     printf("ota_node.h: its six functions give what those of ota.h give\n");
     return 0;
 }

@@ -1,10 +1,14 @@
 //! Times the proved library beside the model, an ordinary Rust implementation, or what else a row names, and prints a Markdown table
 //! of the ratios.
 
+mod digests;
+mod openssl;
+mod unrolled;
 mod words;
 
 use ota_tests::ffi::{self, Node};
-use ota_tests::generate::{plain_image, two_sectors};
+use ota_tests::generate::{plain_image, redo_digest, two_sectors};
+use ota_tests::image::{DESCRIPTOR_PLACE, DIGEST_SIZE};
 use ota_tests::partition::FLASH_MAX;
 use ota_tests::record::{make, State};
 use ota_tests::rng::Rng;
@@ -31,17 +35,19 @@ fn main() {
     println!("| Work | Library | Rust | Ratio |");
     println!("|---|---:|---:|---:|");
     words::rows();
-    check_image("image check, 64 KiB", 64 << 10);
-    check_image("image check, 1.5 MiB", 3 << 19);
+    check_image("64 KiB", 64 << 10);
+    check_image("1.5 MiB", 3 << 19);
     whole_rewrite();
     check_list();
-    boot_slots("eight slots of 64 KiB", 8, 64 << 10);
-    boot_slots("sixteen slots of 64 KiB", 16, 64 << 10);
-    boot_slots("sixteen slots of 960 KiB", 16, 960 << 10);
+    boot_slots("eight slots of 64 KiB", 8, 64 << 10, false);
+    boot_slots("sixteen slots of 64 KiB", 16, 64 << 10, false);
+    boot_slots("sixteen slots of 960 KiB", 16, 960 << 10, false);
+    boot_slots("sixteen slots of 64 KiB with digests", 16, 64 << 10, true);
+    digests::rows();
 }
 
-/// Times both sides and prints a row of the table.
-fn row(name: &str, mut library: impl FnMut(), mut model: impl FnMut()) {
+/// Times both sides and prints a row of the table. Gives the seconds of each.
+fn row(name: &str, mut library: impl FnMut(), mut model: impl FnMut()) -> [f64; 2] {
     let repeats = [repeats(&mut library), repeats(&mut model)];
     let mut times = [Vec::new(), Vec::new()];
     for _ in 0..RUNS {
@@ -53,6 +59,7 @@ fn row(name: &str, mut library: impl FnMut(), mut model: impl FnMut()) {
         times[RUNS / 2]
     });
     println!("| {name} | {} | {} | {:.2} |", readable(library), readable(model), library / model);
+    [library, model]
 }
 
 /// How often the work fits into a run.
@@ -79,15 +86,17 @@ fn readable(seconds: f64) -> String {
     }
 }
 
-/// An image of exactly `length` bytes with a digest, one segment of random bytes.
-fn random_image(length: usize) -> Vec<u8> {
-    let data = length - 32 - 16 - 32;
-    let mut image = plain_image(0, 1, data, true);
+/// An image of exactly `length` bytes, one segment of random bytes, with or without a digest.
+fn random_image(length: usize, digest: bool) -> Vec<u8> {
+    let padded = length - if digest { DIGEST_SIZE } else { 0 };
+    let end = padded - 16;
+    let mut image = plain_image(0, 1, end - DESCRIPTOR_PLACE, digest);
     assert_eq!(image.len(), length);
-    let before = image[40..32 + data].iter().fold(0, |sum, byte| sum ^ byte);
-    Rng::new(1).fill(&mut image[40..32 + data]);
-    let after = image[40..32 + data].iter().fold(0, |sum, byte| sum ^ byte);
-    image[length - 33] ^= before ^ after;
+    let before = image[40..end].iter().fold(0, |sum, byte| sum ^ byte);
+    Rng::new(1).fill(&mut image[40..end]);
+    let after = image[40..end].iter().fold(0, |sum, byte| sum ^ byte);
+    image[padded - 1] ^= before ^ after;
+    redo_digest(&mut image);
     image
 }
 
@@ -112,17 +121,19 @@ fn accepted<I: ?Sized, T: PartialEq + Debug>(
     );
 }
 
-fn check_image(name: &str, length: usize) {
-    accepted(
-        name,
-        &random_image(length)[..],
-        length as u64,
-        |image| {
-            let mut out = [0; 4];
-            (ffi::check_image(image, BOARD, &mut out), out[0])
-        },
-        |image| image::check(image, BOARD).ok().map(|facts| facts.length),
-    );
+fn check_image(size: &str, length: usize) {
+    for (digest, kind) in [(false, "no digest"), (true, "digest")] {
+        accepted(
+            &format!("image check, {size}, {kind}"),
+            &random_image(length, digest)[..],
+            length as u64,
+            |image| {
+                let mut out = [0; 4];
+                (ffi::check_image(image, BOARD, &mut out), out[0])
+            },
+            |image| image::check(image, BOARD).ok().map(|facts| facts.length),
+        );
+    }
 }
 
 fn whole_rewrite() {
@@ -164,11 +175,11 @@ fn check_list() {
     );
 }
 
-/// So many slots, each with an image of that size.
-fn boot_slots(name: &str, n: u32, size: usize) {
+/// So many slots, each with an image of that size, with or without a digest.
+fn boot_slots(name: &str, n: u32, size: usize, digest: bool) {
     let last = n - 1;
     let list = slots(n, size);
-    let flash = random_image(size).repeat(n as usize);
+    let flash = random_image(size, digest).repeat(n as usize);
     let record = |sequence| make(sequence, &[0xFF; 20], State::Valid.word()).ok();
     time_boot(
         &format!("boot, {name}, the active record's app passes"),
@@ -178,9 +189,11 @@ fn boot_slots(name: &str, n: u32, size: usize) {
         [2, last, 1],
     );
 
-    // The checksum of all but the last is wrong, so that all images are read to their end.
+    // The last byte of all images but the last is wrong: of the checksum, or of the digest. So all are read, or hashed, to their end.
     let mut damaged = flash;
-    (1..n as usize).for_each(|slot| damaged[slot * size - 33] ^= 1);
+    (1..n as usize).for_each(|slot| damaged[slot * size - 1] ^= 1);
+    let refusal = image::check(&damaged[..size], BOARD).unwrap_err();
+    assert_eq!(refusal.number, if digest { 30 } else { 28 });
     time_boot(
         &format!("boot, {name}, no record, only the last slot's app passes"),
         &list,

@@ -125,7 +125,7 @@ fn choose(
 #[cfg(test)]
 mod tests {
     use super::*;
-    use crate::generate::{limit_revisions, plain_loadable, plain_node, two_sectors};
+    use crate::generate::{limit_revisions, plain_loadable, plain_node, spoil_digest, two_sectors};
     use crate::record::make;
     use crate::settings::Board;
 
@@ -219,6 +219,28 @@ mod tests {
             let settings = Settings { board: Board { revision, ..ROLLBACK.board }, ..ROLLBACK };
             assert_eq!(boot(&list, &flash, &mut otadata, &settings), expected);
             assert_eq!(otadata, two_sectors(record(2, State::Valid), record(3, state)));
+        }
+    }
+
+    /// Slot 1 and factory have a digest; where it is wrong, they are passed over.
+    #[test]
+    fn a_wrong_digest_is_passed_over() {
+        let (list, flash) = plain_node(&[Some(1); 3], Some(1));
+        let [mut wrong_slot, mut wrong_both] = [flash.clone(), flash.clone()];
+        spoil_digest(&mut wrong_slot[0x1_0000..]);
+        spoil_digest(&mut wrong_both[0x1_0000..]);
+        spoil_digest(&mut wrong_both[3 * 0x1_0000..]);
+        let factory = Started { app: App::Factory, sector: None, efuse: 0, image: plain_loadable(3) };
+        for (flash, first, expected, state) in [
+            (&flash, None, start_of_slot(1, Some(1)), State::Pending),
+            (&wrong_slot, record(1, State::Valid), start_of_slot(0, Some(0)), State::New),
+            (&wrong_slot, None, factory, State::New),
+            (&wrong_both, None, start_of_slot(0, None), State::New),
+            (&wrong_both, record(4, State::Invalid), start_of_slot(2, None), State::New),
+        ] {
+            let mut otadata = two_sectors(first, record(2, State::New));
+            assert_eq!(boot(&list, flash, &mut otadata, &ROLLBACK), Ok(expected));
+            assert_eq!(otadata, two_sectors(first, record(2, state)));
         }
     }
 }

@@ -31,6 +31,7 @@ mod c {
         pub fn ota_store(sector: *mut u8, len: usize, record: *const u8, record_len: usize, m: usize) -> u32;
         pub fn ota_rewrite(sector: *mut u8, len: usize, record: *const u8, record_len: usize) -> u32;
         pub fn ota_check_list(list: *const u32, words: usize, flash_len: usize, out: *mut u32) -> u32;
+        pub fn ota_sha256(bytes: *const u8, len: usize, digest: *mut u8) -> u32;
         pub fn ota_check_image(image: *const u8, len: usize, chip_id: u16, revision: u16, out: *mut u64) -> u32;
         pub fn ota_efuse_version(chip_id: u16, efuse: u32) -> u32;
         pub fn ota_efuse_raise(chip_id: u16, efuse: u32, version: u32) -> u32;
@@ -153,6 +154,10 @@ pub fn rewrite(sector: &mut [u8], record: &[u8]) -> u32 {
 
 pub fn check_list(list: &[u32], flash_len: usize, out: &mut [u32; 2]) -> u32 {
     unsafe { c::ota_check_list(list.as_ptr(), list.len(), flash_len, out.as_mut_ptr()) }
+}
+
+pub fn sha256(bytes: &[u8], digest: &mut [u8; 32]) -> u32 {
+    unsafe { c::ota_sha256(bytes.as_ptr(), bytes.len(), digest.as_mut_ptr()) }
 }
 
 pub fn check_image(image: &[u8], board: Board, out: &mut [u64; 4]) -> u32 {

@@ -7,6 +7,7 @@ use crate::record::{check_word, raw_bytes, State, HIGHEST_SEQUENCE, LABEL_SIZE, 
 use crate::rng::Rng;
 use crate::sector::{self, OTADATA_SIZE, SECTOR_SIZE};
 use crate::settings::{efuse_width, Board};
+use crate::sha256;
 
 const PAGE: usize = 4_096;
 const BLOCK: usize = 65_536;
@@ -20,14 +21,16 @@ pub fn plain_image(chip_id: u16, version: u32, length: usize, digest: bool) -> V
     let mut data = vec![0; length];
     data[..4].copy_from_slice(&DESCRIPTOR_WORD.to_le_bytes());
     data[4..8].copy_from_slice(&version.to_le_bytes());
-    build_image(chip_id, 0x4008_0000, &[data], digest)
+    let mut image = build_image(chip_id, 0x4008_0000, &[data], digest);
+    redo_digest(&mut image);
+    image
 }
 
 /// The image of the app at a place of a plain node. From one place to the next it is longer, has another entry address, and takes turns
 /// between no digest and a digest.
 fn app_image(chip_id: u16, version: u32, place: usize) -> Vec<u8> {
     let mut image = plain_image(chip_id, version, 256 + 16 * place, place % 2 == 1);
-    image[4..8].copy_from_slice(&plain_loadable(place).entry.to_le_bytes());
+    edit(&mut image, |image| image[4..8].copy_from_slice(&plain_loadable(place).entry.to_le_bytes()));
     image
 }
 
@@ -60,10 +63,59 @@ pub fn plain_node_of(chip_id: u16, slots: &[Option<u32>], factory: Option<u32>) 
     (list, flash)
 }
 
-/// Sets the minimum and the maximum revision of an image. The checksum doesn't cover them.
+/// Sets the minimum and the maximum revision of an image. The checksum doesn't cover them; a digest that was right is made right again.
 pub fn limit_revisions(image: &mut [u8], minimum: u16, maximum: u16) {
+    edit(image, |image| put_limits(image, minimum, maximum));
+}
+
+fn put_limits(image: &mut [u8], minimum: u16, maximum: u16) {
     image[MINIMUM_PLACE..][..2].copy_from_slice(&minimum.to_le_bytes());
     image[MAXIMUM_PLACE..][..2].copy_from_slice(&maximum.to_le_bytes());
+}
+
+/// Changes an image. A digest that was right for the image before is right for it afterwards too; any other stays as it is.
+pub fn edit(image: &mut [u8], change: impl FnOnce(&mut [u8])) {
+    let right = has_right_digest(image);
+    change(image);
+    if right {
+        redo_digest(image);
+    }
+}
+
+/// Where an image's digest begins. None where the flag isn't 1, or the bytes don't hold all segments, the padding and the digest.
+pub fn digest_place(image: &[u8]) -> Option<usize> {
+    if *image.get(FLAG_PLACE)? != 1 {
+        return None;
+    }
+    let after = |end: usize| Some(end + SEGMENT_HEADER_SIZE + segment_data(image, end)?.len());
+    let end = (0..image[1]).try_fold(HEADER_SIZE, |end, _| after(end))?;
+    let place = padded_end(end);
+    (place + DIGEST_SIZE <= image.len()).then_some(place)
+}
+
+/// Whether an image has a digest, and it is right.
+pub fn has_right_digest(image: &[u8]) -> bool {
+    digest_place(image).is_some_and(|place| image[place..][..DIGEST_SIZE] == sha256::digest(&image[..place]))
+}
+
+/// Gives an image a right digest, where there is room after it for one.
+pub fn add_digest(image: &mut [u8]) {
+    image[FLAG_PLACE] = 1;
+    redo_digest(image);
+}
+
+/// Makes the digest of an image wrong.
+pub fn spoil_digest(image: &mut [u8]) {
+    let place = digest_place(image).expect("the image has a digest");
+    image[place + DIGEST_SIZE - 1] ^= 1;
+}
+
+/// Makes the digest of an image right, where it has one.
+pub fn redo_digest(image: &mut [u8]) {
+    if let Some(place) = digest_place(image) {
+        let (hashed, digest) = image.split_at_mut(place);
+        digest[..DIGEST_SIZE].copy_from_slice(&sha256::digest(hashed));
+    }
 }
 
 /// A minimum and a maximum revision, and the first and the last revision that fit, if any does.
@@ -114,14 +166,14 @@ pub fn two_sectors(first: Option<[u8; RECORD_SIZE]>, second: Option<[u8; RECORD_
     otadata
 }
 
-/// An image of the given segments' data, with padding, checksum and, if asked for, 32 bytes of digest.
-fn build_image(chip_id: u16, entry: u32, segments: &[Vec<u8>], digest: bool) -> Vec<u8> {
+/// An image of the given segments' data, with padding, checksum and, if asked for, room for a digest.
+pub fn build_image(chip_id: u16, entry: u32, segments: &[Vec<u8>], digest: bool) -> Vec<u8> {
     let mut image = vec![0; HEADER_SIZE];
     image[0] = MAGIC;
     image[1] = segments.len() as u8;
     image[4..8].copy_from_slice(&entry.to_le_bytes());
     image[12..14].copy_from_slice(&chip_id.to_le_bytes());
-    image[23] = digest.into();
+    image[FLAG_PLACE] = digest.into();
     let mut checksum = CHECKSUM_START;
     for (data, number) in segments.iter().zip(0..) {
         image.extend((0x3F40_0020_u32 + 0x1_0000 * number).to_le_bytes());
@@ -129,10 +181,10 @@ fn build_image(chip_id: u16, entry: u32, segments: &[Vec<u8>], digest: bool) -> 
         image.extend(data);
         checksum = data.iter().fold(checksum, |sum, byte| sum ^ byte);
     }
-    image.resize((image.len() / 16 + 1) * 16, 0);
+    image.resize(padded_end(image.len()), 0);
     *image.last_mut().unwrap() = checksum;
     if digest {
-        image.resize(image.len() + DIGEST_SIZE, 0xD1);
+        image.resize(image.len() + DIGEST_SIZE, 0);
     }
     image
 }
@@ -468,6 +520,67 @@ const IN_PLACE: [Damage; 15] = [
 ];
 const CUTS: [Damage; 3] = [CutNearTheEnd, CutAnywhere, CutBelow288];
 
+impl Damage {
+    /// Whether it is done to the whole image, when that has its digest.
+    fn comes_last(self) -> bool {
+        self == AnyByte || CUTS.contains(&self)
+    }
+}
+
+/// A change that no test of an image sees but that of the digest.
+#[derive(Clone, Copy, PartialEq, Eq, Debug)]
+pub enum Unseen {
+    /// The same bit of two bytes of data, so that the checksum stays right.
+    TwoDataBits,
+    /// The padding before the checksum, which is zero otherwise.
+    Padding,
+    /// A byte that no test reads, of the image's header or a segment's.
+    Header,
+}
+
+/// How the digest of an image is drawn.
+#[derive(Clone, Copy, PartialEq, Eq, Debug)]
+pub enum Digest {
+    Right,
+    /// Made after a change, so that it is right.
+    After(Unseen),
+    /// Made before a change.
+    Before(Unseen),
+    /// One bit of this byte is wrong.
+    OneByte(usize),
+    /// The same bit of two bytes is wrong.
+    TwoBytes,
+    AnyBytes,
+    /// The bytes of each word stand in the other order.
+    WordsReversed,
+    /// Of the bytes up to the end of the last segment.
+    UpToTheEnd,
+    /// Of all bytes before the checksum.
+    UpToTheChecksum,
+}
+
+impl Digest {
+    pub const RIGHT: [Digest; 4] = [
+        Digest::Right,
+        Digest::After(Unseen::TwoDataBits),
+        Digest::After(Unseen::Padding),
+        Digest::After(Unseen::Header),
+    ];
+
+    /// All that are wrong.
+    pub fn wrong() -> Vec<Digest> {
+        let mut wrong: Vec<Digest> = (0..DIGEST_SIZE).map(Digest::OneByte).collect();
+        wrong.extend([Unseen::TwoDataBits, Unseen::Padding, Unseen::Header].map(Digest::Before));
+        wrong.extend([Digest::TwoBytes, Digest::AnyBytes, Digest::WordsReversed]);
+        wrong.extend([Digest::UpToTheEnd, Digest::UpToTheChecksum]);
+        wrong
+    }
+
+    pub fn is_right(self) -> bool {
+        Digest::RIGHT.contains(&self)
+    }
+}
+
 /// The lengths of the segments of a good image.
 fn segment_lengths(rng: &mut Rng) -> Vec<usize> {
     let count = match rng.below(10) {
@@ -484,18 +597,110 @@ fn segment_lengths(rng: &mut Rng) -> Vec<usize> {
 /// The bytes of the header that no rule reads; 14 and 19 stand beside the fields of the revision.
 const UNREAD: [usize; 11] = [2, 3, 8, 9, 10, 11, 14, 19, 20, 21, 22];
 
-/// An image that fits the board, with some damage. The checksum is right unless that is damaged.
-fn random_image(rng: &mut Rng, board: Board, mut lengths: Vec<usize>, digest: bool, damages: &[Damage]) -> Vec<u8> {
+/// An image that fits the board, with some damage. The checksum is right unless that is damaged. Where the image is to have a digest,
+/// that is drawn after the damage, but for what is done to the whole image.
+fn random_image(
+    rng: &mut Rng,
+    board: Board,
+    mut lengths: Vec<usize>,
+    flag: bool,
+    digest: Digest,
+    damages: &[Damage],
+) -> Vec<u8> {
     if damages.contains(&ShortFirstSegment) {
         lengths[0] = rng.pick(&[0, 4, 128, 248, 252]);
     }
     let segments = random_segments(rng, board.chip_id, &lengths, damages);
-    let mut image = build_image(board.chip_id, rng.word(), &segments, digest);
+    let mut image = build_image(board.chip_id, rng.word(), &segments, flag);
     UNREAD.into_iter().for_each(|place| image[place] = rng.word() as u8);
     let [minimum, maximum] = random_limits(rng, board.revision, damages);
-    limit_revisions(&mut image, minimum, maximum);
-    damages.iter().for_each(|damage| apply(rng, &mut image, &lengths, *damage));
+    put_limits(&mut image, minimum, maximum);
+    let (last, first): (Vec<Damage>, Vec<Damage>) = damages.iter().partition(|damage| damage.comes_last());
+    first.into_iter().for_each(|damage| apply(rng, &mut image, &lengths, damage));
+    draw_digest(rng, &mut image, &lengths, flag, digest);
+    last.into_iter().for_each(|damage| apply(rng, &mut image, &lengths, damage));
     image
+}
+
+/// Makes the change that comes with a digest and, where the image has room for it, the digest.
+fn draw_digest(rng: &mut Rng, image: &mut [u8], lengths: &[usize], flag: bool, digest: Digest) {
+    let end = header_of(lengths, lengths.len());
+    let (hashed, room) = image.split_at_mut(padded_end(end));
+    if let Digest::After(change) = digest {
+        make_unseen(rng, hashed, lengths, change);
+    }
+    if flag {
+        room.copy_from_slice(&digest_bytes(rng, hashed, end, digest));
+    }
+    if let Digest::Before(change) = digest {
+        make_unseen(rng, hashed, lengths, change);
+    }
+}
+
+/// The 32 bytes of a digest of bytes whose padding begins at `end`.
+fn digest_bytes(rng: &mut Rng, hashed: &[u8], end: usize, digest: Digest) -> [u8; DIGEST_SIZE] {
+    let mut bytes = match digest {
+        Digest::UpToTheEnd => sha256::digest(&hashed[..end]),
+        Digest::UpToTheChecksum => sha256::digest(&hashed[..hashed.len() - 1]),
+        _ => sha256::digest(hashed),
+    };
+    match digest {
+        Digest::OneByte(byte) => bytes[byte] ^= 1 << rng.below(8),
+        Digest::TwoBytes => flip_in_two(rng, DIGEST_SIZE, |byte, bit| bytes[byte] ^= bit),
+        Digest::AnyBytes => rng.fill(&mut bytes),
+        Digest::WordsReversed => bytes.chunks_exact_mut(4).for_each(<[u8]>::reverse),
+        _ => {}
+    }
+    bytes
+}
+
+/// Flips the same bit of two of `count` bytes.
+fn flip_in_two(rng: &mut Rng, count: usize, mut flip: impl FnMut(usize, u8)) {
+    let (first, more, bit) = (rng.below(count), 1 + rng.below(count - 1), 1 << rng.below(8));
+    flip(first, bit);
+    flip((first + more) % count, bit);
+}
+
+/// Makes a change that only the digest shows. Where there is too little data for one of it, the header is changed.
+fn make_unseen(rng: &mut Rng, image: &mut [u8], lengths: &[usize], change: Unseen) {
+    let end = header_of(lengths, lengths.len());
+    // The descriptor's word and the version are read.
+    let data: usize = lengths.iter().sum::<usize>().saturating_sub(8);
+    match change {
+        Unseen::TwoDataBits if data > 1 => {
+            flip_in_two(rng, data, |byte, bit| image[data_place(lengths, 8 + byte)] ^= bit)
+        }
+        Unseen::Padding => {
+            let padding = &mut image[end..padded_end(end) - 1];
+            if rng.chance(50) {
+                rng.fill(padding);
+            }
+            padding[rng.below(padding.len())] = 1 + rng.below(255) as u8;
+        }
+        Unseen::TwoDataBits | Unseen::Header => {
+            let place = match rng.below(4) {
+                0 => 4 + rng.below(4),
+                1 => header_of(lengths, rng.below(lengths.len())) + rng.below(4),
+                _ => rng.pick(&UNREAD),
+            };
+            image[place] ^= 1 << rng.below(8);
+        }
+    }
+}
+
+/// The place of a byte of data, counted over all segments.
+fn data_place(lengths: &[usize], mut byte: usize) -> usize {
+    let mut number = 0;
+    while byte >= lengths[number] {
+        byte -= lengths[number];
+        number += 1;
+    }
+    header_of(lengths, number) + SEGMENT_HEADER_SIZE + byte
+}
+
+/// The place of a segment's header, or of the end of the last segment.
+fn header_of(lengths: &[usize], number: usize) -> usize {
+    HEADER_SIZE + lengths[..number].iter().map(|length| SEGMENT_HEADER_SIZE + length).sum::<usize>()
 }
 
 /// The data of the segments, with the descriptor at the front of the first.
@@ -517,19 +722,17 @@ fn random_segments(rng: &mut Rng, chip_id: u16, lengths: &[usize], damages: &[Da
 
 /// Does what is wrong to an image of segments of these lengths.
 fn apply(rng: &mut Rng, image: &mut Vec<u8>, lengths: &[usize], damage: Damage) {
-    let header_of =
-        |number: usize| HEADER_SIZE + lengths[..number].iter().map(|l| SEGMENT_HEADER_SIZE + l).sum::<usize>();
-    let end = header_of(lengths.len());
+    let end = header_of(lengths, lengths.len());
     match damage {
         Magic => image[0] = rng.pick(&[0, 0xE8, 0xFF, 0x69]),
         NoSegments => image[1] = 0,
         ManySegments => image[1] = rng.pick(&[17, 18, 32, 128, 255]),
         OneMoreSegment => image[1] += 1,
         Chip => image[12 + rng.below(2)] ^= 1 << rng.below(8),
-        DigestFlag => image[23] = rng.pick(&[2, 3, 0x80, 0xFF]),
+        DigestFlag => image[FLAG_PLACE] = rng.pick(&[2, 3, 0x80, 0xFF]),
         SegmentLength | SegmentPassesTheEnd => {
             let number = rng.below(lengths.len());
-            let place = header_of(number) + 4;
+            let place = header_of(lengths, number) + 4;
             let length = if damage == SegmentLength {
                 lengths[number] as u32 + rng.pick(&[1, 2, 3, 5, 0x8000_0002, 0_u32.wrapping_sub(2)])
             } else {
@@ -538,7 +741,7 @@ fn apply(rng: &mut Rng, image: &mut Vec<u8>, lengths: &[usize], damage: Damage) 
             };
             image[place..place + 4].copy_from_slice(&length.to_le_bytes());
         }
-        Checksum => image[(end / 16 + 1) * 16 - 1] ^= 1 << rng.below(8),
+        Checksum => image[padded_end(end) - 1] ^= 1 << rng.below(8),
         AnyByte => {
             let place = rng.below(image.len());
             image[place] ^= 1 << rng.below(8);
@@ -567,8 +770,14 @@ pub fn lone_image(rng: &mut Rng) -> (Vec<u8>, Board) {
     if rng.chance(10) {
         damages.extend(rng.pick(&[&[BelowMinimum][..], &[AboveMaximum], &[BelowMinimum, AboveMaximum]]));
     }
-    let digest = rng.chance(50);
-    let mut image = random_image(rng, board, lengths, digest, &sorted(damages));
+    let (flag, digest) = (rng.chance(50), rng.pick(&Digest::RIGHT));
+    let mut image = random_image(rng, board, lengths, flag, digest, &sorted(damages));
+    add_tail(rng, &mut image);
+    (image, board)
+}
+
+/// Now and then bytes after an image.
+fn add_tail(rng: &mut Rng, image: &mut Vec<u8>) {
     if rng.chance(30) {
         let mut more = vec![0xFF; rng.below(64)];
         if rng.chance(50) {
@@ -576,7 +785,38 @@ pub fn lone_image(rng: &mut Rng) -> (Vec<u8>, Board) {
         }
         image.extend(more);
     }
-    (image, board)
+}
+
+/// An image that is drawn for its digest.
+pub struct DrawnImage {
+    pub image: Vec<u8>,
+    pub board: Board,
+    pub digest: Digest,
+    /// Where it is off, the 32 bytes are none of the image's.
+    pub flag: bool,
+    /// Whether there is damage besides.
+    pub damaged: bool,
+}
+
+pub fn drawn_image(rng: &mut Rng) -> DrawnImage {
+    let board = board(rng);
+    let mut lengths = segment_lengths(rng);
+    if rng.below(200) == 0 {
+        lengths[0] += 4 * rng.below(50_000);
+    }
+    let digest = if rng.chance(25) { rng.pick(&Digest::RIGHT) } else { rng.pick(&Digest::wrong()) };
+    let flag = rng.chance(80);
+    let damage = match rng.below(10) {
+        0..=2 => Some(rng.pick(&IN_PLACE)).filter(|damage| flag && *damage != AnyByte),
+        3 => Some(rng.pick(&CUTS)).filter(|_| flag),
+        _ => None,
+    };
+    let mut image = random_image(rng, board, lengths, true, digest, damage.as_slice());
+    if !flag {
+        image[FLAG_PLACE] = 0;
+    }
+    add_tail(rng, &mut image);
+    DrawnImage { image, board, digest, flag, damaged: damage.is_some() }
 }
 
 /// Each damage once, cuts last.
@@ -589,17 +829,19 @@ fn sorted(mut damages: Vec<Damage>) -> Vec<Damage> {
 /// An image for a slot of `size` bytes; now and then one that ends with the slot or passes its end.
 fn slot_image(rng: &mut Rng, board: Board, size: usize, good: bool) -> Vec<u8> {
     let mut lengths = segment_lengths(rng);
-    let digest = rng.chance(50);
+    let (mut flag, mut digest) = (rng.chance(50), rng.pick(&Digest::RIGHT));
     let mut damages = Vec::new();
     if !good && rng.chance(15) {
         damages.push(rng.pick(&[BelowMinimum, AboveMaximum]));
+    } else if !good && rng.chance(20) {
+        (flag, digest) = (true, rng.pick(&Digest::wrong()));
     } else if !good {
         damages.extend((0..rng.pick(&[1, 1, 1, 2])).map(|_| rng.pick(&IN_PLACE)));
     }
     if rng.chance(4) && size <= 8 * PAGE {
         // The end e falls so many bytes from the end of the slot.
         let before = if good { rng.pick(&[36, 48]) } else { rng.pick(&[0, 4, 12, 16, 20, 28, 32]) };
-        let end = HEADER_SIZE + lengths.iter().map(|length| SEGMENT_HEADER_SIZE + length).sum::<usize>();
+        let end = header_of(&lengths, lengths.len());
         if end + before < size {
             *lengths.last_mut().unwrap() += size - before - end;
             if !good && rng.chance(80) {
@@ -607,7 +849,7 @@ fn slot_image(rng: &mut Rng, board: Board, size: usize, good: bool) -> Vec<u8> {
             }
         }
     }
-    random_image(rng, board, lengths, digest, &sorted(damages))
+    random_image(rng, board, lengths, flag, digest, &sorted(damages))
 }
 
 // Partition lists.

@@ -3,7 +3,10 @@
 use crate::record::word_at;
 use crate::refusal::ImageRefusal;
 use crate::settings::{efuse_width, Board};
+use crate::sha256;
 use std::ops::RangeInclusive;
+
+pub use crate::sha256::DIGEST_SIZE;
 
 pub const MAGIC: u8 = 0xE9;
 pub const HEADER_SIZE: usize = 24;
@@ -17,7 +20,7 @@ pub const DESCRIPTOR_WORD: u32 = 0xABCD_5432;
 pub const DESCRIPTOR_PLACE: usize = 32;
 pub const VERSION_PLACE: usize = 36;
 pub const CHECKSUM_START: u8 = 0xEF;
-pub const DIGEST_SIZE: usize = 32;
+pub const FLAG_PLACE: usize = 23;
 /// The shortest image that isn't refused with 20: header, one segment header and the descriptor.
 pub const IMAGE_MIN: usize = 288;
 
@@ -54,8 +57,8 @@ pub fn check(image: &[u8], board: Board) -> Result<Facts, ImageRefusal> {
     test((1..=SEGMENTS_MAX).contains(&count), 22, 1)?;
     test(half_at(image, 12) == board.chip_id, 23, 12)?;
     test(revisions(image).contains(&board.revision), 31, MINIMUM_PLACE)?;
-    let digest = image[23];
-    test(digest <= 1, 24, 23)?;
+    let flag = image[FLAG_PLACE];
+    test(flag <= 1, 24, FLAG_PLACE)?;
 
     let mut end = HEADER_SIZE;
     let mut checksum = CHECKSUM_START;
@@ -70,13 +73,19 @@ pub fn check(image: &[u8], board: Board) -> Result<Facts, ImageRefusal> {
     let described = first_length >= DESCRIPTOR_SIZE && word_at(image, DESCRIPTOR_PLACE) == DESCRIPTOR_WORD;
     test(described, 26, DESCRIPTOR_PLACE)?;
 
-    let padded = (end / 16 + 1) * 16;
-    let length = padded + if digest == 1 { DIGEST_SIZE } else { 0 };
+    let padded = padded_end(end);
+    let length = padded + if flag == 1 { DIGEST_SIZE } else { 0 };
     test(length <= image.len(), 27, end)?;
     test(image[padded - 1] == checksum, 28, padded - 1)?;
     let version = word_at(image, VERSION_PLACE);
     test(version <= efuse_width(board.chip_id), 29, VERSION_PLACE)?;
+    test(flag == 0 || image[padded..length] == sha256::digest(&image[..padded]), 30, padded)?;
     Ok(Facts { length: length as u64, entry: word_at(image, 4), version, segments: count.into() })
+}
+
+/// The end of the padding of an image whose last segment ends at `end`: the next multiple of 16 above.
+pub fn padded_end(end: usize) -> usize {
+    (end / 16 + 1) * 16
 }
 
 /// The revisions that an image is for. As a maximum, 0 is no limit; nor is 65,535, the highest that two bytes hold.
@@ -93,7 +102,7 @@ fn half_at(image: &[u8], place: usize) -> u16 {
 }
 
 /// The data of the segment whose header is at `place`, or none if it passes the end or its length isn't a multiple of 4.
-fn segment_data(image: &[u8], place: usize) -> Option<&[u8]> {
+pub fn segment_data(image: &[u8], place: usize) -> Option<&[u8]> {
     let (header, rest) = image.get(place..)?.split_at_checked(SEGMENT_HEADER_SIZE)?;
     let length = word_at(header, 4) as usize;
     if length.is_multiple_of(4) {
@@ -106,7 +115,7 @@ fn segment_data(image: &[u8], place: usize) -> Option<&[u8]> {
 #[cfg(test)]
 mod tests {
     use super::*;
-    use crate::generate::{limit_revisions, plain_image, LIMITS};
+    use crate::generate::{edit, limit_revisions, plain_image, spoil_digest, LIMITS};
 
     const ESP32: Board = Board { chip_id: 0, revision: 301 };
 
@@ -200,13 +209,70 @@ mod tests {
         }
     }
 
+    /// What the smallest image with a wrong digest gets.
+    const WRONG_DIGEST: Result<Facts, ImageRefusal> = Err(ImageRefusal { number: 30, place: 304 });
+
+    /// No bit of an image with a digest can change without a refusal, but for the flag's: then it is an image without.
+    #[test]
+    fn every_bit_counts() {
+        let image = plain_image(0, 1, 256, true);
+        for bit in 0..8 * image.len() {
+            let mut changed = image.clone();
+            changed[bit / 8] ^= 1 << (bit % 8);
+            let reply = check(&changed, ESP32);
+            match bit / 8 {
+                FLAG_PLACE if bit % 8 == 0 => assert_eq!(reply.unwrap().length, 304),
+                // The bytes of the header that no test reads, the load address and the padding.
+                2..=11 | 14 | 19..=22 | 24..=27 | 288..=302 => assert_eq!(reply, WRONG_DIGEST),
+                304..=335 => assert_eq!(reply, WRONG_DIGEST),
+                _ => assert!(reply.is_err(), "bit {bit}"),
+            }
+        }
+    }
+
+    /// Two flipped bits that cancel in the checksum: accepted without a digest, refused with one, wherever they are.
+    #[test]
+    fn bits_that_cancel() {
+        for digest in [false, true] {
+            let image = plain_image(0, 1, 256, digest);
+            for place in 40..287 {
+                let mut changed = image.clone();
+                changed[place] ^= 0x10;
+                changed[place + 1] ^= 0x10;
+                assert_eq!(check(&changed, ESP32), if digest { WRONG_DIGEST } else { check(&image, ESP32) });
+            }
+        }
+    }
+
+    /// The padding belongs to what is hashed, the checksum too, and bytes after the digest don't.
+    #[test]
+    fn what_the_digest_is_of() {
+        let image = plain_image(0, 1, 256, true);
+        let [mut with_its_own, mut with_the_old] = [image.clone(), image.clone()];
+        edit(&mut with_its_own, |image| image[290] = 0x5A);
+        with_the_old[290] = 0x5A;
+        assert_eq!(check(&with_its_own, ESP32), check(&image, ESP32));
+        assert_eq!(check(&with_the_old, ESP32), WRONG_DIGEST);
+        for end in [288, 303] {
+            let mut shorter = image.clone();
+            shorter[304..].copy_from_slice(&sha256::digest(&image[..end]));
+            assert_eq!(check(&shorter, ESP32), WRONG_DIGEST);
+        }
+        assert_eq!(check(&[&image[..], &[7; 9]].concat(), ESP32), check(&image, ESP32));
+    }
+
     /// The faults pile up from the last test to the first; each time the new one is given.
     #[test]
     fn the_first_fault_is_given() {
-        let image = plain_image(5, 17, 256, false);
+        let mut image = plain_image(5, 16, 256, true);
         let board = Board { chip_id: 5, revision: 0xFDFF };
         let number = |image: &[u8]| check(image, board).map_err(|refusal| (refusal.number, refusal.place)).unwrap_err();
+        spoil_digest(&mut image);
+        assert_eq!(number(&image), (30, 304));
+        image[36] ^= 1;
+        image[303] ^= 1;
         assert_eq!(number(&image), (29, 36));
+        assert_eq!(number(&image[..335]), (27, 288));
         let mut worse = image.clone();
         for (place, expected) in
             [(303, (28, 303)), (32, (26, 32)), (28, (25, 24)), (23, (24, 23)), (16, (31, 15)), (13, (23, 12))]

@@ -2,6 +2,7 @@
 //! library's C interface, and the generator of cases that both are held to.
 //!
 //! The model's modules follow document 01: [`record`], [`sector`], [`partition`], [`settings`], [`image`], [`boot`], [`update`].
+//! [`sha256`] follows FIPS 180-4.
 
 pub mod boot;
 pub mod image;
@@ -10,6 +11,7 @@ pub mod record;
 pub mod refusal;
 pub mod sector;
 pub mod settings;
+pub mod sha256;
 pub mod update;
 
 pub mod ffi;

@@ -1,6 +1,6 @@
-//! The numbers with which a call refuses, both tables of document 01.
+//! The numbers with which a call refuses: both tables of document 01, and what document 02 adds to them.
 
-/// Why an image is refused: 20 to 29 or 31, and the place in the image.
+/// Why an image is refused: 20 to 31, and the place in the image.
 #[derive(Clone, Copy, PartialEq, Eq, Debug)]
 pub struct ImageRefusal {
     pub number: u32,

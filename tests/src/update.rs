@@ -162,7 +162,7 @@ fn test_not_pending(active: Option<(usize, Record)>, settings: &Settings) -> Res
 #[cfg(test)]
 mod tests {
     use super::*;
-    use crate::generate::{limit_revisions, plain_loadable, plain_node, two_sectors};
+    use crate::generate::{limit_revisions, plain_loadable, plain_node, spoil_digest, two_sectors};
     use crate::record::make;
     use crate::refusal::ImageRefusal;
     use crate::settings::Board;
@@ -253,6 +253,24 @@ mod tests {
         assert_eq!(otadata, before);
         assert_eq!(mark_invalid(&list, &flash, &mut otadata, &later, 0), Ok(()));
         assert_eq!(otadata, two_sectors(record(3, State::Invalid), record(2, State::Valid)));
+    }
+
+    /// The digest of slot 1's app is wrong.
+    #[test]
+    fn an_app_with_a_wrong_digest() {
+        let (list, mut flash) = plain_node(&[Some(1), Some(2)], None);
+        spoil_digest(&mut flash[0x1_0000..]);
+        let refused = Refusal::Image(ImageRefusal { number: 30, place: 320 });
+
+        let before = two_sectors(record(1, State::Valid), record(2, State::Pending));
+        let mut otadata = before.clone();
+        assert_eq!(mark_valid(&list, &flash, &mut otadata, &ROLLBACK, 1), Err(refused));
+        assert_eq!(set_boot(&list, &flash, &mut otadata, &ROLLBACK, 1), Err(refused));
+        assert_eq!(otadata, before);
+        let before = two_sectors(record(3, State::Valid), record(2, State::Valid));
+        let mut otadata = before.clone();
+        assert_eq!(mark_invalid(&list, &flash, &mut otadata, &ROLLBACK, 0), Err(Refusal::NoFallback));
+        assert_eq!(otadata, before);
     }
 
     /// Set-boot that writes and of a slot that is named already; mark-valid that writes and of a record that was valid.

@@ -9,7 +9,7 @@ import struct
 import sys
 
 from cases import LAST, SECTOR, Cases, total, with_revision
-from layers import FACTORY, add_list, check_image, checksum, listing, raised, slots_in, version, width
+from layers import FACTORY, add_list, check_image, checksum, digest, flipped, listing, raised, slots_in, version, width
 from records import (ABORTED, BLANK, FF, INVALID, LABEL, NEW, PENDING, STATES, UNDEFINED, VALID, add_stores, named, put_store, reading,
                      record, shown, usable)
 
@@ -157,11 +157,12 @@ def pair(seed):
 
 
 class Boots:
-    """Adds the cases of boot, and keeps how many boots and rewrites there are and the numbers that were met."""
+    """Adds the cases of boot, and keeps how many boots and rewrites there are, the numbers that were met, and what the images are made of."""
 
     def __init__(self, cases):
         self.cases = cases
         self.flash = Flash(cases.flash)
+        self.traits = {name: dict(made_of) for name, made_of in MADE_OF.items()}
         self.length = 0
         self.met = collections.Counter()
         self.boots = self.rewrites = 0
@@ -180,8 +181,10 @@ class Boots:
     def clear(self):
         self.cases.fill(0, SIZE, (0, 0))
 
-    def patch(self, at, data):
-        self.cases.patch(at, data)
+    def lay(self, name, **traits):
+        """Lays an image anew, with some traits changed from now on, and so with a digest of its own."""
+        self.traits[name] |= traits
+        self.cases.patch(UNIT * UNITS[name], image(**self.traits[name]))
         self.flash.checked = {}
 
     def list(self, words, length=SIZE):
@@ -278,9 +281,9 @@ OTHER_CHIP = 0x0203
 REVISIONS = (0, 1, 99, 100, 199, 300, 399, CHIP, OTHER_CHIP, 65534, 65535)
 
 
-def image(size, flag, entry, secure=3, chip=CHIP, limits=(0, 0), wrong=0, puts=()):
+def image(size, flag, entry, secure=3, chip=CHIP, limits=(0, 0), wrong=0, puts=(), spoilt=()):
     """An image with one segment of zeros but for its descriptor. The limits are its minimum and maximum revision. The puts are laid over
-    it last."""
+    it last, before the digest, if it has one, and a bit of the spoilt bytes is flipped after that."""
     e = 32 + size
     padded = e - e % 16 + 16
     made = bytearray(padded + 32 * flag)
@@ -293,7 +296,9 @@ def image(size, flag, entry, secure=3, chip=CHIP, limits=(0, 0), wrong=0, puts=(
     made[padded - 1] = checksum([made[32:e]]) ^ wrong
     for at, data in puts:
         made[at:at + len(data)] = data
-    return bytes(made)
+    if flag:
+        made[padded:] = digest(made[:padded])
+    return bytes(flipped(made, *spoilt))
 
 
 GOOD = list("abcdefghijklmnopq")  # sixteen slots and factory
@@ -326,22 +331,26 @@ BAD = {
     "v32": (29, {"secure": 32}),
     "v33": (29, {"secure": 33}),
     "v64": (29, {"secure": 64}),
+    "first digest byte": (30, {"flag": 1, "spoilt": [-32]}),
+    "last digest byte": (30, {"flag": 1, "spoilt": [-1]}),
+    "two bits": (30, {"flag": 1, "spoilt": [100, 200]}),
 }
 TRAITS |= {name: traits for name, (_, traits) in BAD.items()}
 
 
 def numbered(k, traits):
-    """The image of unit k. Each has a length and an entry address of its own; every other one has a digest, and every other two have the
-    maximum revision 65,535 instead of 0, unless the traits decide."""
+    """What the image of unit k is made of. Each has a length and an entry address of its own; every other one has a digest, and every
+    other two have the maximum revision 65,535 instead of 0, unless the traits decide."""
     entry = (0x40080400 + 0x01020304 * k) % (1 << 32)
-    return image(**{"size": 256 + 16 * k, "flag": k % 2, "entry": entry, "limits": (0, (0, 65535)[k // 2 % 2]), **traits})
+    return {"size": 256 + 16 * k, "flag": k % 2, "entry": entry, "limits": (0, (0, 65535)[k // 2 % 2]), **traits}
 
 
-IMAGES = {name: numbered(k, traits) for k, (name, traits) in enumerate(TRAITS.items())}
+MADE_OF = {name: numbered(k, traits) for k, (name, traits) in enumerate(TRAITS.items())}
+IMAGES = {name: image(**traits) for name, traits in MADE_OF.items()}
 # by unit, the whole length and the entry address
 MADE = [(len(made), int.from_bytes(made[4:8], "little")) for made in IMAGES.values()]
 assert len(MADE) == len({length for length, _ in MADE}) == len({entry for _, entry in MADE})
-MADE_LIMITS = {name: struct.unpack_from("<HH", made, 15) for name, made in IMAGES.items()}
+MADE_LIMITS = {name: traits["limits"] for name, traits in MADE_OF.items()}
 UNITS = {name: unit for unit, name in enumerate(IMAGES)}
 EMPTY = SIZE // UNIT - 1
 assert len(UNITS) <= EMPTY  # the last unit stays zero
@@ -363,8 +372,8 @@ def listed(slots, factory=None, place=None, order=None, sizes={}):
 
 def add_flash(cases):
     cases.clear()
-    for name, made in IMAGES.items():
-        cases.patch(UNIT * UNITS[name], made)
+    for name in IMAGES:
+        cases.lay(name)
 
 
 ROLLBACK = Settings(True, False, 7, CHIP, None)
@@ -556,19 +565,20 @@ BY_VERSION = {chip: ["v0", "v1", "v2", "a", "v4", "v5", f"v{width(chip)}"] for c
 
 
 def add_by_chip(cases):
-    """The cases of both widths, the images being for that chip while they are made: their checksums don't cover the header."""
+    """The cases of both widths, the images being for that chip while they are made."""
     for chip in REGISTERS:
         add_chip_ids(cases, chip)
         add_anti_rollback(cases, chip, ANTI._replace(chip=chip), ROLLBACK._replace(chip=chip))
         add_register(cases, chip, ANTI._replace(chip=chip), ROLLBACK._replace(chip=chip))
         add_revision_ways(cases, ANTI._replace(chip=chip), ROLLBACK._replace(chip=chip))
+        add_digest_ways(cases, ANTI._replace(chip=chip), ROLLBACK._replace(chip=chip))
     add_chip_ids(cases, CHIP)
 
 
 def add_chip_ids(cases, chip):
     for name, made in IMAGES.items():
         if made[12:14] == CHIP.to_bytes(2, "little"):
-            cases.patch(UNIT * UNITS[name] + 12, chip.to_bytes(2, "little"))
+            cases.lay(name, chip=chip)
 
 
 def add_anti_rollback(cases, chip, anti, rollback):
@@ -726,9 +736,9 @@ def add_images(cases):
 
 
 def add_limits(cases, limits):
-    """The images have these minimums and maximums from now on, by name. The checksums don't cover them."""
+    """The images have these minimums and maximums from now on, by name."""
     for name, pair in limits.items():
-        cases.patch(UNIT * UNITS[name] + 15, struct.pack("<HH", *pair))
+        cases.lay(name, limits=pair)
 
 
 def add_revisions(cases):
@@ -755,22 +765,71 @@ def add_revision_edges(cases):
 
 
 def add_revision_ways(cases, anti, rollback):
-    """The lower the revision, the later the app that is started. A new record that is passed over stays new, and the last search raises
-    the register, past slots that don't fit."""
+    """The lower the revision, the more apps fail."""
     add_limits(cases, {"j": (303, 0), "k": (302, 0), "l": (301, 65535), "m": (300, 65535)})
-    recs = record(3, NEW, LABEL), record(2, VALID)
-    ways = {304: (0, 2, 0), 303: (0, 2, 0), 302: (0, 1, 1), 301: (0, FACTORY, None), 300: (0, 0, None), 299: (10, None, None)}
-    cases.list(listed(["m", "k", "j"], "l"))
-    for revision, want in ways.items():
-        cases.boot(rollback._replace(revision=revision), recs, want, writes=[0] if revision >= 303 else [])
-        cases.boot(rollback._replace(revision=revision, rollback=False), recs, want, writes=())
-    cases.list(listed(["j", "k", "m"]))
-    for revision, slot in ((304, 0), (303, 0), (302, 1), (301, 2), (300, 2), (299, None)):
-        found = (0, slot, None, 7) if slot is not None else (10, None, None, 0)
-        cases.boot(anti._replace(efuse=0, revision=revision), (BLANK, BLANK), found, writes=())
-        found = (0, 1, None) if revision >= 302 else (10, None, None)  # slots 0 and 2 are barred
-        cases.boot(rollback._replace(revision=revision), (record(4, PENDING), record(3, INVALID)), found, writes=(0,))
+    for failing, revisions in enumerate(((304, 303), (302,), (301,), (300,), (299,))):
+        for revision in revisions:
+            add_ways(cases, "jklm", failing, anti._replace(revision=revision), rollback._replace(revision=revision))
     add_limits(cases, MADE_LIMITS)
+
+
+def add_ways(cases, apps, failing, anti, rollback):
+    """Of four apps, that of the active record, of the other one, of factory and of a slot that none names, so many fail, in this order:
+    the next one is started. A new record that is passed over stays new, and the last search raises the register, past slots that fail."""
+    active, other, factory, unnamed = apps
+    recs = record(3, NEW, LABEL), record(2, VALID)
+    through = [(0, 2, 0), (0, 1, 1)]
+    last = [(0, 0, None), (10, None, None)]
+    marks = [0] if failing == 0 else []
+    want = (through + [(0, FACTORY, None)] + last)[failing]
+    cases.list(listed([unnamed, other, active], factory))
+    cases.boot(rollback, recs, want, writes=marks)
+    cases.boot(rollback._replace(rollback=False), recs, want, writes=())
+    want = (through + last[:1] + last)[failing]
+    cases.list(listed([unnamed, other, active]))
+    for settings in (rollback, anti):
+        cases.boot(settings, recs, want + (settings.efuse,), writes=marks)
+    cases.list(listed([active, other, unnamed]))
+    slot = (0, 1, 2, 2, None)[failing]
+    found = (0, slot, None, 7) if slot is not None else (10, None, None, 0)
+    cases.boot(anti._replace(efuse=0), (BLANK, BLANK), found, writes=())
+    found = (0, 1, None) if failing < 2 else (10, None, None)  # slots 0 and 2 are barred
+    cases.boot(rollback, (record(4, PENDING), record(3, INVALID)), found, writes=(0,))
+
+
+# bytes that make a digest wrong: the digest's first and last one, two of the data that cancel in the xor, one of the header
+SPOILT = [-32], [-1], [100, 200], [8]
+
+
+def add_spoilt(cases, spoilt):
+    """The images, which have a digest, have these bytes spoilt from now on, by name."""
+    for name, places in spoilt.items():
+        assert cases.traits[name]["flag"] == 1
+        cases.lay(name, spoilt=places)
+
+
+def add_digests(cases):
+    """An app with a wrong digest does not pass, in each way and whichever byte is wrong; without a digest only the checksum counts."""
+    add_spoilt(cases, dict(zip("fhln", SPOILT)))
+    add_fallbacks(cases, tuple("fhln"))
+    add_spoilt(cases, dict.fromkeys("fhln", ()))
+    cases.list(listed(["i", "j"]))
+    for places in (*SPOILT, *[[k] for k in range(-32, 0)], [14], [24], [-40]):
+        add_spoilt(cases, {"j": places})
+        cases.boot(ROLLBACK, (record(2, VALID), record(1, VALID)), (0, 0, 1), writes=())
+    add_spoilt(cases, {"j": ()})
+    for places in ([100, 200], [8], [14], [24], [-8], ()):
+        cases.lay("i", spoilt=places)
+        cases.boot(ROLLBACK, (record(2, VALID), record(3, VALID)), (0, 0, 1), writes=())
+
+
+def add_digest_ways(cases, anti, rollback):
+    """One app after the other fails for its digest."""
+    add_ways(cases, "jlnp", 0, anti, rollback)
+    for failing, name in enumerate("jlnp"):
+        add_spoilt(cases, {name: SPOILT[failing]})
+        add_ways(cases, "jlnp", failing + 1, anti, rollback)
+    add_spoilt(cases, dict.fromkeys("jlnp", ()))
 
 
 def add_lives(cases):
@@ -873,17 +932,33 @@ def add_cut_apps(cases):
         cases.cuts(ANTI, p, (kept, passes)[::order], low, seen=[p, 1 - p])
 
 
+def add_cut_passing(cases, settings, olds, apps):
+    """In either sector rewrites over these records, with each record whose app passes or not; the untouched one's passes."""
+    kept = record(4, VALID)
+    for p, old, (rec, passing) in itertools.product((0, 1), olds, apps.items()):
+        order = 1 if p else -1
+        first = [p] if old in apps and apps[old] else []
+        cases.cuts(settings, p, (kept, old)[::order], rec, seen=first + ([1 - p, p] if passing else [1 - p]))
+
+
 def add_cut_revisions(cases):
-    """The app of the rewritten sector fits the board's revision or not; the untouched one's does."""
+    """The app of the rewritten sector fits the board's revision or not."""
     cases.list(listed(["a", "b", "c"]))
     add_limits(cases, {"a": (299, 301), "b": (301, 0), "c": (0, 299)})
-    kept, of_b, of_c = record(4, VALID), record(5, NEW), record(6, NEW)
-    for p, revision in itertools.product((0, 1), (299, 300, 301)):
-        order = 1 if p else -1
-        for rec, fits in ((of_b, revision == 301), (of_c, revision == 299)):
-            seen = [1 - p, p] if fits else [1 - p]
-            cases.cuts(ROLLBACK._replace(revision=revision), p, (kept, record(3, VALID))[::order], rec, seen=seen)
+    for revision in (299, 300, 301):
+        apps = {record(5, NEW): revision == 301, record(6, NEW): revision == 299}
+        add_cut_passing(cases, ROLLBACK._replace(revision=revision), [record(3, VALID)], apps)
     add_limits(cases, MADE_LIMITS)
+
+
+def add_cut_digests(cases):
+    """Its digest is right or wrong, and so is that of the app of the record before."""
+    cases.list(listed(["b", "d", "f"]))
+    add_spoilt(cases, {"f": [-1]})
+    for settings in ALL_SETTINGS:
+        apps = {record(5, NEW): True, record(6, NEW): False}
+        add_cut_passing(cases, settings, [record(3, VALID), *apps], apps)
+    add_spoilt(cases, {"f": ()})
 
 
 def add_cut_sequences(cases):
@@ -916,10 +991,10 @@ def add_all(cases):
     """Gives the number of boots and of rewrites of which all cuts are made."""
     boots = Boots(cases)
     for add in (add_flash, add_examples, add_active, add_grid, add_fallbacks, add_same_slot, add_search, add_marks, add_new,
-                add_by_chip, add_widths, add_damaged, add_bytes, add_refusals, add_images, add_revisions, add_lives):
+                add_by_chip, add_widths, add_damaged, add_bytes, add_refusals, add_images, add_revisions, add_digests, add_lives):
         add(boots)
     add_random(boots, random.Random(20261117))
-    assert set(boots.met) == {0, 1, 2, 3, 10} and boots.flash.met == {0, *range(21, 30), 31}
-    for add in (add_rewrites, add_cut_states, add_cut_apps, add_cut_revisions, add_cut_sequences, add_cut_lists):
+    assert set(boots.met) == {0, 1, 2, 3, 10} and boots.flash.met == {0, *range(21, 32)}
+    for add in (add_rewrites, add_cut_states, add_cut_apps, add_cut_revisions, add_cut_digests, add_cut_sequences, add_cut_lists):
         add(boots)
     return boots.boots, boots.rewrites

@@ -1,7 +1,7 @@
 """The cases of the vectors: what a case holds, the buffers that it changes, and the lines that must be printed for it.
 
-The program `vectors` of the gate runs the kinds 0 to 10, through the library's crates and its C interface; the program `vectors` of
-tests/ runs 0, 7 and 11 to 16, through the static library. Both have a flash, zero at first, of 2,097,152 and of 4,194,304 bytes, and a
+The program `vectors` of the gate runs the kinds 0 to 12, through the library's crates and its C interface; the program `vectors` of
+tests/ runs 0, 7, 11 and 13 to 18, through the static library. Both have a flash, zero at first, of 2,097,152 and of 4,194,304 bytes, and a
 list; the second also a buffer of 9,216 bytes of which otadata is the front.
 A case is 256 bytes; numbers are little-endian:
     0  kind, as below
@@ -9,7 +9,8 @@ A case is 256 bytes; numbers are little-endian:
     2  half word: chip id, number of the list's words or of the sequences, or number of the sector
     4  word a, 8  word b, 12  word c
    16  record of sector 0, 48  record of sector 1, 80  the record lent; or the bytes that are put into the flash; or up to 60
-       sequences; or the list's first 60 words: after them the gate's program has zeros, and the other repeats words 57 to 59
+       sequences; or the lengths of 60 pieces; or the list's first 60 words: after them the gate's program has zeros, and the other repeats
+       words 57 to 59
   124  start and step of sector 0's or the flash's filler, 126  those of sector 1's
   128  half word: the chip's revision, of image, boot and cuts
 Byte i of what is filled is the front's, and after it the start, with step 1 plus 7 i + 13 (i / 256) + 29 (i / 65,536), mod 256. With step 2,
@@ -28,15 +29,18 @@ Sector 1 is laid up to the buffer's end. The kinds:
     8 part: slot a, length c of the flash       length and sum of the slot's part, and its first word, which is its place in a flash of step 2
     9 factory: length c of the flash            the same of factory
    10 image: chip, revision, length c           number, and the four numbers of its check
-   11 active: lengths a, b of the sectors       number, the record, what each sector reads as
-   12 stores: sector, its length a, the record's length b % 256, b / 256 stores from c on
-   13 rewrite: the same but c                   number, what the sector reads as, sum of the buffer
-   14 boot: chip, register a, length b of otadata, length c of the flash
+   11 digest: length c of the flash             number, sum of the digest of the flash
+   12 pieces: b pieces, length c of the flash   the same, of the flash fed by pieces: piece i is as long as word i % 60 of those at 16, or
+                                                all that is left if that is less; after the b pieces all that is left, maybe nothing, is one
+   13 active: lengths a, b of the sectors       number, the record, what each sector reads as
+   14 stores: sector, its length a, the record's length b % 256, b / 256 stores from c on
+   15 rewrite: the same but c                   number, what the sector reads as, sum of the buffer
+   16 boot: chip, register a, length b of otadata, length c of the flash
                                                 number, the six numbers of the reply, sum of the buffer
-   15 cuts: chip, register a, sector b, length c of the flash
+   17 cuts: chip, register a, sector b, length c of the flash
                                                 for a run of cuts: its first and last, what the rewritten sector reads as, number and reply
                                                 of the next boot, and what the two sectors then read as
-   16 words: sequences                          number, and their check words
+   18 words: sequences                          number, and their check words
 A sum stands for bytes: they are the digits of a number to the base 257, taken modulo 4,294,967,291. The gate's program prints five numbers
 of each case, zeros after those that are named. The other prints what a sector reads as: a good record in hexadecimal, or why there is
 none, `blank`, `bad-sequence`, `bad-check`, `bad-state`, the first that applies, or `wrong-size`. Where no record is active it prints `none`.
@@ -50,7 +54,8 @@ BUFFER = 9216
 SECTOR = 4096
 LAST = 0xFFFFFFFF
 PRIME = 4_294_967_291
-NAMES = "flash check slot version raise read make list part factory image active stores rewrite boot cuts words".split()
+NAMES = ("flash check slot version raise read make list part factory image digest pieces"
+         " active stores rewrite boot cuts words").split()
 KINDS = {name: kind for kind, name in enumerate(NAMES)}
 FRONT = 108
 CASE = 256
@@ -58,10 +63,17 @@ WORDS = 60
 
 
 @functools.lru_cache(None)
+def rows(step):
+    """A filler's 256 bytes from a multiple of 256 on, by the first of them."""
+    return [bytes((first + step * 7 * i) % 256 for i in range(256)) for first in range(256)]
+
+
+@functools.lru_cache(None)
 def filler(start, step, count):
     if step == 2:
         return b"".join(i.to_bytes(4, "little") for i in range(0, count, 4))[:count]
-    return bytes((start + step * (7 * i + 13 * (i // 256) + 29 * (i // 65536))) % 256 for i in range(count))
+    firsts = ((start + step * (13 * k + 29 * (k // 256))) % 256 for k in range((count + 255) // 256))
+    return b"".join(rows(step)[first] for first in firsts)[:count]
 
 
 def with_revision(body, revision):

@@ -1,8 +1,9 @@
 """Cases of the eFuse register, partition lists, their parts and app images, and the rules of documents 01 and 02 of them.
 
-Independent of the Rattle code.
+Independent of the Rattle code: the digest is hashlib's.
 """
 import functools
+import hashlib
 import itertools
 import operator
 import random
@@ -79,6 +80,10 @@ def checksum(datas):
     return functools.reduce(operator.xor, b"".join(datas), 0xEF)
 
 
+def digest(data):
+    return hashlib.sha256(data).digest()
+
+
 def wrong_revision(image, revision):
     minimum, maximum = half(image, 15), half(image, 17)
     return revision < minimum or maximum not in (0, 65535) and revision > maximum
@@ -109,6 +114,8 @@ def check_image(image, chip, revision):
         return 28, padded - 1
     if word(image, 36) > width(chip):
         return 29, 36
+    if image[23] == 1 and image[padded:length] != digest(image[:padded]):
+        return 30, padded
     return 0, length, word(image, 4), word(image, 36), image[1]
 
 
@@ -378,8 +385,9 @@ assert 0 < LIMITS[0] < REVISION < LIMITS[1] < 65535
 
 
 def build(lengths, magic=0xE9, count=None, entry_address=0x40080400, chip=0, limits=LIMITS, flag=0, descriptor=0xABCD5432, secure=1,
-          wrong=0, puts=(), cut=0, more=0):
-    """An image with segments of these lengths, whose data is what a fill leaves. The puts are laid over it last."""
+          wrong=0, puts=(), spoilt=0, cut=0, more=0):
+    """An image with segments of these lengths, whose data is what a fill leaves. The puts are laid over it last, before the digest, if it
+    has one. The wrong and the spoilt bits are those of the checksum and of the first digest byte."""
     e = 24 + sum(8 + length for length in lengths)
     padded = e - e % 16 + 16
     image = bytearray(FILLED[:padded + 32 * flag + more])
@@ -397,7 +405,18 @@ def build(lengths, magic=0xE9, count=None, entry_address=0x40080400, chip=0, lim
     image[padded - 1] = checksum(datas) ^ wrong
     for at, data in puts:
         image[at:at + len(data)] = data
+    if flag:
+        image[padded:padded + 32] = digest(image[:padded])
+        image[padded] ^= spoilt
     return image[:len(image) - cut]
+
+
+def flipped(image, *places, bit=0x10):
+    """The image with that bit of the bytes at these places flipped, and nothing else."""
+    made = bytearray(image)
+    for at in places:
+        made[at] ^= bit
+    return made
 
 
 def le(number, size=4):
@@ -410,9 +429,10 @@ def add_examples(cases):
     small[40:288] = bytes(248)
     small[303] = 0xEE
     cases.image(small, (0, 304, 0x40080400, 1, 1))
-    flagged = small[:23] + b"\x01" + small[24:] + bytes(32)
-    cases.image(flagged, (0, 336, 0x40080400, 1, 1))
-    cases.image(flagged[:335], (27, 288))
+    flagged = small[:23] + b"\x01" + small[24:]
+    cases.image(flagged + digest(flagged), (0, 336, 0x40080400, 1, 1))
+    cases.image(flagged + bytes(32), (30, 304))
+    cases.image((flagged + bytes(32))[:335], (27, 288))
     cases.image(small[:303], (27, 288))
     cases.image(build([252, 8]), (26, 32))
     cases.image(build([254, 8]), (25, 24))
@@ -487,10 +507,75 @@ def add_end_faults(cases):
         cases.image(build([length], wrong=1), (28, padded - 1))
     for k in range(8):
         cases.image(build([256], wrong=1 << k), (28, 303))
-    for place in (41, 287):  # data counts; load addresses, padding, digest and what follows do not
+    for place in (41, 287):  # data counts; load addresses, padding and what follows do not, but for the digest
         cases.image(build([256], puts=[(place, le(FILLED[place] ^ 0x10, 1))]), (28, 303))
-    for place in (24, 27, 288, 302, 304, 335, 336, 340):
+    for place in (24, 27, 288, 302, 336, 340):
         cases.image(build([256], flag=1, more=8, puts=[(place, le(FILLED[place] ^ 0x10, 1))]), (0, 336))
+    for place in (304, 335):
+        cases.image(flipped(build([256], flag=1, more=8), place), (30, 304))
+
+
+def add_digests(cases):
+    """A digest that is right, each of its bytes wrong, and bytes changed that no other test looks at."""
+    for length in (256, 272, 288, 304):  # by the bytes in the last block
+        padded = 48 + length
+        image = build([length], flag=1)
+        cases.image(image, (0, padded + 32))
+        for k in range(32):
+            cases.image(flipped(image, padded + k, bit=1 << k % 8), (30, padded))
+        for place in (4, 14, 24, padded - 16, padded - 2):  # entry address, header, load address, padding
+            cases.image(flipped(image, place), (30, padded))
+            cases.image(build([length], flag=1, puts=[(place, le(image[place] ^ 0x10, 1))]), (0, padded + 32))
+    add_cancelling_bits(cases)
+    add_other_digests(cases)
+    for chip in (0, 16):
+        cases.image(build([256, 8], flag=1, chip=chip), (0, 352, 0x40080400, 1, 2), chip=chip)
+        cases.image(build([256, 8], flag=1, chip=chip, spoilt=1), (30, 320), chip=chip)
+        for secure in (0, width(chip), width(chip) + 1, LAST):
+            cases.image(build([256, 8], flag=1, chip=chip, spoilt=1, secure=secure), 30 if secure <= width(chip) else 29, chip=chip)
+            cases.image(build([256, 8], flag=1, chip=chip, spoilt=1, secure=secure, wrong=1), 28, chip=chip)
+    for more in (1, 31, 32, 64):  # bytes after the image: with flag 0 a wrong digest is only that
+        cases.image(build([256], flag=1, more=more), (0, 336))
+        cases.image(build([256], flag=1, more=more, spoilt=1), (30, 304))
+        cases.image(build([256], more=more), (0, 304))
+
+
+def add_cancelling_bits(cases):
+    """Two flipped bits of data that cancel in the xor, in one segment and in two: accepted without a digest, refused with one, unless
+    the digest is made of them."""
+    for places in ((40, 41), (40, 287), (41, 296), (299, 303), (287, 304)):
+        for bit in (1, 0x80):
+            for flag in (0, 1):
+                image = build([256, 12], flag=flag)
+                changed = flipped(image, *places, bit=bit)
+                cases.image(image, (0, 320 + 32 * flag))
+                cases.image(changed, (30, 320) if flag else (0, 320))
+                if flag:
+                    cases.image(changed[:320] + digest(changed[:320]), (0, 352))
+
+
+def add_other_digests(cases):
+    """Padding that is not zero counts, and digests of other bytes than all those before the digest are wrong, as is another order of a
+    right one's bytes."""
+    image = build([260, 4], flag=1, more=64)
+    e, padded = 304, 320
+    before = bytes(image[:padded])
+    right = digest(before)
+    zero = before[:e] + bytes(15) + before[-1:]
+    assert before[e:-1] != bytes(15)
+    cases.image(zero + digest(zero), (0, 352))
+    cases.image(zero + right, (30, padded))
+    wrong = [digest(zero), digest(before[:e]), digest(before[:-1]), digest(before[24:]), digest(before[32:e]), digest(before + bytes(32)),
+             digest(before + right), digest(image), digest(before[:23] + b"\0" + before[24:]), digest(right), digest(b""), bytes(32),
+             b"\xff" * 32, right[::-1], right[16:] + right[:16], right[1:] + right[:1], right[:31] + bytes(1), bytes(1) + right[1:],
+             b"".join(right[k:k + 4][::-1] for k in range(0, 32, 4)), bytes(byte ^ 0xFF for byte in right)]
+    for other in wrong:
+        assert len(other) == 32 and other != right
+        cases.image(before + other, (30, padded))
+        cases.image(before + other + right, (30, padded))
+    for place in (1, 4, 16, 32):  # the right one stands later
+        cases.image(before + bytes(place) + right, (30, padded))
+    cases.image(before[:23] + b"\0" + before[24:] + wrong[0], (0, padded))
 
 
 # a minimum and a maximum revision, and the first and the last revision that fit, if any does
@@ -540,6 +625,7 @@ FAULTS = {
     27: {"cut": 1},
     28: {"wrong": 0x40},
     29: {"secure": 33},
+    30: {"spoilt": 0x40},
 }
 
 
@@ -566,7 +652,11 @@ def add_large_images(cases):
     # the segments of source document 002, with other data
     lengths = [0x13CE0, 0, 0, 0x28E0, 0, 0x400, 0x9600, 0x62E4C, 0x6CEC, 0, 4, 0, 0]
     assert 24 + sum(8 + length for length in lengths) == 0x89B7C
-    cases.image(build(lengths, flag=1), (0, 564128, 0x40080400, 1, 13))
+    image = build(lengths, flag=1)
+    cases.image(image, (0, 564128, 0x40080400, 1, 13))
+    for place in (564096, 564127, 4, 0x89B74, 0x89B7C):  # the digest's first and last byte, the header, a load address, the padding
+        cases.image(flipped(image, place), (30, 564096))
+    cases.image(flipped(image, 0x13CFF, 0x89B6B), (30, 564096))  # data of the first segment and of the last one that has any
     cases.image(build(lengths, flag=1, cut=1), (27, 0x89B7C))
     cases.image(build(lengths, flag=1, wrong=0x80), (28, 0x89B7F))
     cases.image(build(lengths), (0, 564096))
@@ -577,6 +667,10 @@ def add_large_images(cases):
     cases.image(build([whole]), (27, IMAGES - 4), IMAGES - 1)
     cases.image(build([whole], puts=[(28, le(whole + 4))]), (27, IMAGES))
     cases.image(build([whole], puts=[(28, le(whole + 8))]), (25, 24))
+    image = build([whole - 32], flag=1)
+    cases.image(image, (0, IMAGES))
+    cases.image(flipped(image, IMAGES - 1), (30, IMAGES - 32))
+    cases.image(image, (27, IMAGES - 36), IMAGES - 1)
     cases.fill()
 
 
@@ -606,8 +700,9 @@ def add_all(cases):
         add(layers)
     add_random_lists(layers, rand)
     add_parts(layers)
-    for add in (add_examples, add_header_faults, add_revisions, add_segment_faults, add_descriptor_faults, add_end_faults, add_pairs):
+    for add in (add_examples, add_header_faults, add_revisions, add_segment_faults, add_descriptor_faults, add_end_faults, add_digests,
+                add_pairs):
         add(layers)
     add_large_images(layers)
     add_random_images(layers, rand)
-    assert layers.met == {0, *range(20, 30), 31}
+    assert layers.met == {0, *range(20, 32)}

@@ -9,6 +9,7 @@ import pathlib
 import sys
 
 import boot
+import digests
 import layers
 import records
 from cases import CASE, Cases, GateCases
@@ -20,6 +21,7 @@ def of_gate():
     cases = GateCases()
     records.add_records(cases)
     layers.add_all(cases)
+    digests.add_all(cases)
     check = "--check" in sys.argv
     for name, content in (("stdin", bytes(cases.cases)), ("stdout", ("\n".join(cases.lines) + "\n").encode())):
         if not check:
@@ -33,6 +35,7 @@ def outside(folder):
     cases = Cases()
     records.add_sectors(cases)
     layers.add_repeated_lists(cases)
+    digests.add_whole(cases)
     boots, rewrites = boot.add_all(cases)
     (folder / "cases").write_bytes(bytes(cases.cases))
     (folder / "lines").write_text("\n".join(cases.lines) + "\n")

@@ -1,4 +1,4 @@
--- The head of an image decides the header's tests and, with the ending, the tests after the segments and the facts.
+-- The head of an image decides the header's tests, whether there is a digest and, with the ending, 26 to 29 and the facts.
 -- Assumes nothing.
 use Prim.Native.Nat.{ℕ, _+_, _<_, _≤_}
 use mathlib.Core.Path.{_≡_}
@@ -31,14 +31,7 @@ head-decides s t board agree =
             agree 18 (omega arith),
             agree 23 (omega arith),
           );
-      ends =
-          λ ending.
-          simp (
-            same 4 (omega arith),
-            same 28 (omega arith),
-            same 32 (omega arith),
-            same 36 (omega arith),
-            agree 1 (omega arith),
-            agree 23 (omega arith),
-          );
+      flag = agree 23 (omega arith);
+      ends = λ ending. simp (same 28 (omega arith), same 32 (omega arith), same 36 (omega arith), agree 23 (omega arith));
+      facts = λ e. simp (same 4 (omega arith), same 36 (omega arith), agree 1 (omega arith), agree 23 (omega arith));
     }

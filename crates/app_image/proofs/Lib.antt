@@ -1,4 +1,5 @@
 pub mod Acceptance
+pub mod Comparison
 pub mod Examples
 pub mod Head
 pub mod Refusals

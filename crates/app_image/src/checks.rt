@@ -3,8 +3,9 @@ ghost use mathlib.Core.Path.{_≡_};
 ghost use Prim.Native.Nat.{_≤_, _<_, _^_};
 ghost use lib.ListN.{length};
 ghost use Rattle.otadata.specs.Answers.{viewed};
-ghost use Rattle.app_image.specs.Layout.{headSize, segments};
-ghost use Rattle.app_image.specs.Check.{view, check as Check·check, headerTests, endTests, countRight, revisionFits, described as Check·described, fromSegments, fromEnd};
+ghost use Rattle.app_image.specs.Layout.{headSize, digestFlag, wholeLength, beforeDigest, appendedDigest, segments};
+ghost use Rattle.app_image.specs.Check.{view, check as Check·check, headerTests, endTests, countRight, revisionFits, described as Check·described};
+ghost use Rattle.app_image.specs.Check.{same as Check·same, digestTest, factsOf, fromSegments, fromEnd};
 use crate::BAD_SEGMENT;
 use crate::Board;
 use crate::CUT_SHORT;
@@ -19,6 +20,7 @@ use crate::Tested;
 use crate::VERSION_TOO_HIGH;
 use crate::WRONG_CHECKSUM;
 use crate::WRONG_CHIP;
+use crate::WRONG_DIGEST;
 use crate::WRONG_DIGEST_FLAG;
 use crate::WRONG_MAGIC;
 use crate::WRONG_REVISION;
@@ -140,21 +142,20 @@ fn check_segments(image: &[u8], board: Board) -> Checked
     }
 }
 
-// 26 to 29, and the facts of an image that passes.
-fn check_end(head: &[u8], board: Board, ending: Ending) -> Checked
-    requires { ⌜ (headSize ≤ length (now head)) × (ending .e < 2 ^ 63) ⌝ }
-    ensures { λ r. ⌜ viewed view r ≡ fromEnd (now (head .entry)) board ending ⌝ }
+// 26 to 30, and the facts of an image that passes.
+fn check_end(image: &[u8], board: Board, ending: Ending) -> Checked
+    requires { ⌜ (headSize ≤ length (now image)) × (ending .length ≡ length (now image)) × (ending .e < 2 ^ 63) ⌝ }
+    ensures { λ r. ⌜ viewed view r ≡ fromEnd (now (image .entry)) board ending ⌝ }
 {
-    let end = test_end(head, board, ending);
+    let end = test_end(image, board, ending);
     if let Tested::Failed(refusal) = end {
         return Checked::Refused(refusal);
     }
-    Checked::Accepted(Facts {
-        length: whole_length(head[23], ending.e),
-        entry: word_at(head, 4),
-        version: SecureVersion(word_at(head, 36)),
-        segments: head[1] as u32,
-    })
+    let digest = test_digest(image, ending.e);
+    if let Tested::Failed(refusal) = digest {
+        return Checked::Refused(refusal);
+    }
+    Checked::Accepted(facts_of(image, ending.e))
 }
 
 // 26 to 29, of the head of an image and its ending.
@@ -197,4 +198,52 @@ fn described(head: &[u8]) -> bool
         return false;
     }
     word_at(head, 32) == 0xABCD_5432
+}
+
+// 30, of an image that is not cut short: only where the flag is 1 are its bytes hashed.
+fn test_digest(image: &[u8], e: usize) -> Tested
+    requires { ⌜ (headSize ≤ length (now image)) × (e < 2 ^ 63) × (wholeLength (digestFlag (now image)) e ≤ length (now image)) ⌝ }
+    ensures { λ r. ⌜ r ≡ digestTest (digestFlag (now (image .entry))) (beforeDigest (now (image .entry)) e) (appendedDigest (now (image .entry)) e) ⌝ }
+{
+    if image[23] != 1 {
+        return Tested::Passed;
+    }
+    let place = padded(e);
+    let end = place + 32;
+    let digest = sha256::digest(&image[..place]);
+    if !same(&image[place..end], &digest) {
+        return Tested::Failed(Refusal {
+            number: WRONG_DIGEST,
+            place,
+        });
+    }
+    Tested::Passed
+}
+
+// Whether two slices have the same bytes.
+fn same(a: &[u8], b: &[u8]) -> bool
+    ensures { λ r. ⌜ r ≡ Check·same (now (a .entry)) (now (b .entry)) ⌝ }
+{
+    if a.len() != b.len() {
+        return false;
+    }
+    for i in 0..a.len() {
+        if a[i] != b[i] {
+            return false;
+        }
+    }
+    true
+}
+
+// What is known of an accepted image, of its head and where its segments end.
+fn facts_of(head: &[u8], e: usize) -> Facts
+    requires { ⌜ (headSize ≤ length (now head)) × (e < 2 ^ 63) ⌝ }
+    ensures { λ r. ⌜ r ≡ factsOf (now (head .entry)) e ⌝ }
+{
+    Facts {
+        length: whole_length(head[23], e),
+        entry: word_at(head, 4),
+        version: SecureVersion(word_at(head, 36)),
+        segments: head[1] as u32,
+    }
 }

@@ -6,7 +6,7 @@ pub use checks::check;
 use efuse::ChipId;
 use efuse::SecureVersion;
 
-// The numbers of a refused image, those of document 01 and, tested after 23, that of document 02.
+// The numbers of a refused image, those of document 01 and, tested after 29 and after 23, those of document 02.
 pub const TOO_SHORT: u32 = 20;
 
 pub const WRONG_MAGIC: u32 = 21;
@@ -26,6 +26,8 @@ pub const CUT_SHORT: u32 = 27;
 pub const WRONG_CHECKSUM: u32 = 28;
 
 pub const VERSION_TOO_HIGH: u32 = 29;
+
+pub const WRONG_DIGEST: u32 = 30;
 
 pub const WRONG_REVISION: u32 = 31;
 

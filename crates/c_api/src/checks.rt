@@ -25,7 +25,7 @@ pub extern "C" fn ota_check_list(list: &[u32], capacity: usize, out: &mut [u32; 
     }
 }
 
-// Checks an image, for a board: 0 with length, entry, version and segments, or 20 to 29 or 31 with the place.
+// Checks an image, for a board: 0 with length, entry, version and segments, or 20 to 31 with the place.
 #[no_mangle]
 pub extern "C" fn ota_check_image(image: &[u8], chip: u16, revision: u16, out: &mut [u64; 4]) -> u32
     ensures { λ r. ⌜ answer r (now (out .exit)) ≡ toC 4 (Check·check (now (image .entry)) (boardOf chip revision) .answer) ⌝ }

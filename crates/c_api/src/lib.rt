@@ -1,5 +1,6 @@
 // The C interface. `include/ota.h` declares its calls; a Rattle program can make them too.
 mod checks;
+mod digests;
 mod many;
 mod node;
 mod records;
@@ -9,6 +10,7 @@ mod updates;
 
 pub use checks::ota_check_image;
 pub use checks::ota_check_list;
+pub use digests::ota_sha256;
 pub use many::ota_check_words;
 pub use node::ota_boot;
 pub use records::ota_active;

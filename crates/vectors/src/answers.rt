@@ -1,5 +1,8 @@
 // The answers to cases, five numbers each: that of the call, and what it gives.
+ghost use mathlib.Core.Path.{_≡_};
+ghost use Rattle.sha256.specs.Sha256.{digest as Sha256·digest};
 use crate::buffers::part;
+use crate::buffers::piece_end;
 use crate::output::sum;
 use crate::output::with_sum;
 use c_api::ota_check_image;
@@ -8,6 +11,7 @@ use c_api::ota_check_word;
 use c_api::ota_efuse_raise;
 use c_api::ota_efuse_version;
 use c_api::ota_make_record;
+use c_api::ota_sha256;
 use otadata::Sequence;
 use otadata::Slot;
 use otadata::Verdict;
@@ -49,6 +53,8 @@ pub(crate) fn answer(case: &[u8], list: &[u32], flash: &[u8]) -> [u32; 5] {
                 (out[3] % 4294967296) as u32,
             ]
         }
+        11 => digest(flash),
+        12 => with_sum(0, &digest_by_pieces(case, flash)),
         _ => [0; 5],
     }
 }
@@ -91,4 +97,26 @@ fn of_part(found: &[u8]) -> [u32; 5] {
         0,
         0,
     ]
+}
+
+// The sum of a message's digest.
+fn digest(message: &[u8]) -> [u32; 5] {
+    let mut out = [0u8; 32];
+    let number = ota_sha256(message, &mut out);
+    with_sum(number, &out)
+}
+
+// The digest of a message that is fed by pieces: as many as the case says, their lengths being its words, and then all that is left.
+fn digest_by_pieces(case: &[u8], message: &[u8]) -> [u8; 32]
+    ensures { λ r. ⌜ r ≡ Sha256·digest (now (message .entry)) ⌝ }
+{
+    let mut hasher = sha256::fresh();
+    let mut at = 0;
+    for i in 0..word_at(case, 8) {
+        let n = word_at(case, 16 + i as usize % 60 * 4) as usize;
+        let end = piece_end(message.len(), at, n);
+        hasher = sha256::fed(hasher, &message[at..end]);
+        at = end;
+    }
+    sha256::finished(sha256::fed(hasher, &message[at..]))
 }

@@ -33,6 +33,17 @@ pub(crate) fn read_list(count: usize, case: &[u8], list: &mut [u32]) -> usize
     }
 }
 
+// The end of a piece of n bytes from `at` on, or of so many bytes in all if that is less.
+pub(crate) fn piece_end(whole: usize, at: usize, n: usize) -> usize
+    requires { ⌜ at ≤ whole ⌝ }
+    ensures { λ r. ⌜ (at ≤ r) × (r ≤ whole) ⌝ }
+{
+    if whole - at <= n {
+        return whole;
+    }
+    at + n
+}
+
 // At most n bytes from `at` on.
 pub(crate) fn part(bytes: &[u8], at: usize, n: usize) -> &[u8] {
     if bytes.len() <= at {

@@ -6,7 +6,7 @@ use otadata::word_at;
 // A line: the name of the kind of case, of eight letters, and the numbers.
 pub(crate) fn print(case: &[u8], numbers: &[u32]) {
     let names =
-        b"flash   check   slot    version raise   read    make    list    part    factory image   ";
+        b"flash   check   slot    version raise   read    make    list    part    factory image   digest  pieces  ";
     io::write_all(
         STDOUT_FILENO,
         part(names, 8 * (word_at(case, 0) as usize % 256), 8),
@@ -28,8 +28,8 @@ pub(crate) fn sum(bytes: &[u8]) -> u32 {
     sum as u32
 }
 
-// A number, and the sum of a record.
-pub(crate) fn with_sum(number: u32, rec: &[u8; 32]) -> [u32; 5] {
-    let rec: &[u8] = rec;
-    [number, sum(rec), 0, 0, 0]
+// A number, and the sum of a record or a digest.
+pub(crate) fn with_sum(number: u32, found: &[u8; 32]) -> [u32; 5] {
+    let found: &[u8] = found;
+    [number, sum(found), 0, 0, 0]
 }

@@ -19,7 +19,7 @@ use Rattle.efuse.specs.Register.{width, setLowest, raised}
 use Rattle.partitions.specs.PartitionList.{firstFrom}
 use Rattle.app_image.specs.declared.Facts.{Facts}
 use Rattle.app_image.specs.Layout.{badSegment, segmentsFrom, xored}
-use Rattle.app_image.specs.Check.{lengthTest, headerTests, segmentTest, endTests, check}
+use Rattle.app_image.specs.Check.{lengthTest, headerTests, segmentTest, endTests, digestTest, check}
 use Rattle.app_image.specs.Example.{oneSegment}
 use Rattle.boot_choice.specs.declared.Settings.{Settings}
 use Rattle.boot.specs.Boot.{view, Accepts}
@@ -34,6 +34,7 @@ use Rattle.sectors.proofs.TwoSectors.{readings-at}
 use Rattle.boot_laws.proofs.Laws.{view-law}
 use Rattle.update_laws.proofs.Pointing.{reads, other, starts-slot}
 use Rattle.update_laws.proofs.Setting.{sets}
+use Rattle.worked_examples.proofs.Digests.{digested-accepted, flipped-refused}
 use Rattle.worked_examples.specs.Table.{slot, good as record-of, Node, ActiveIs, set, setRefused, boots, Holds, WorkedExamples}
 
 -- ---- set-boot
@@ -111,7 +112,7 @@ pub valid-not-pending : Valid ≡ Pending → ⊥
 valid-not-pending e = let z : _≡_ {A = ℕ} 2 1 = ap stateWord e in omega arith
 
 pub worked-examples : WorkedExamples
-unfolding WorkedExamples made recordOf good checkWord feeds shift nextSequence firstFrom namesSlot width raised setLowest onesIn oneSegment segmentsFrom badSegment xored check lengthTest headerTests segmentTest endTests
+unfolding WorkedExamples made recordOf good checkWord feeds shift nextSequence firstFrom namesSlot width raised setLowest onesIn oneSegment segmentsFrom badSegment xored check lengthTest headerTests segmentTest endTests digestTest
 worked-examples = (
   refl,
   (
@@ -124,7 +125,7 @@ worked-examples = (
           set-refused _ _ _ (record { below = omega arith; another = refl }) refl,
           (
             boots-holds _ _ _ _ _ _ refl valid-not-pending refl refl,
-            (refl, (refl, (refl, (refl, (refl, (refl, (refl, (refl, (refl, (refl, (refl, (refl, (refl, tt))))))))))))),
+            (refl, (refl, (refl, (refl, (refl, (digested-accepted, (flipped-refused, (refl, (refl, (refl, (refl, (refl, (refl, (refl, (refl, (refl, tt)))))))))))))))),
           ),
         ),
       ),

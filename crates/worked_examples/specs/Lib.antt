@@ -1,2 +1,3 @@
+pub mod Digested
 pub mod Table
 pub mod Witness

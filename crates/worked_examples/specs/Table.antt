@@ -28,6 +28,7 @@ use Rattle.boot_choice.specs.declared.Passing.the-variants.{Yes}
 use Rattle.boot_choice.specs.Choice.{passing}
 use Rattle.boot.specs.Boot.{boot, Accepts}
 use Rattle.update.specs.SetBoot.{newState, setBoot}
+use Rattle.worked_examples.specs.Digested.{digested, flipped}
 
 -- ---- an answer without a refusal
 
@@ -139,6 +140,10 @@ forRevisions least most = setAt (setAt (setAt (setAt (oneSegment 0) 15 (least % 
 abbrev pub on301 : ℕ → ℕ → Answer
 on301 least most = check (forRevisions least most) (boardOf (esp32 .0) 301) .answer
 
+-- the check of an image on the ESP32
+abbrev pub onEsp32 : List ℕ → Answer
+onEsp32 image = check image (boardOf (esp32 .0) 0) .answer
+
 -- ---- the table
 
 abbrev pub table : List Example
@@ -162,7 +167,11 @@ table =
     ∷ value (layout 1) (gives (0xEE ∷ 303 ∷ 0xEE ∷ 336 ∷ []))
     -- e = 0x89B7C: checksum at 0x89B7F, length with digest 564,128
     ∷ value (gives (checksumPlace 0x89B7C ∷ wholeLength 1 0x89B7C ∷ [])) (gives (0x89B7F ∷ 564128 ∷ []))
-    -- document 02, order 6, on the ESP32-H2: version 16 is accepted, version 17 refused with 29
+    -- document 02, order 5: two flipped bits that cancel in the checksum pass without a digest; with it the image is refused with 30
+    ∷ value (onEsp32 (flipped (oneSegment 0))) (gives (304 ∷ 0 ∷ 1 ∷ 1 ∷ []))
+    ∷ value (onEsp32 digested) (gives (336 ∷ 0 ∷ 1 ∷ 1 ∷ []))
+    ∷ value (onEsp32 (flipped digested)) (record { number = 30; values = 304 ∷ [] })
+    -- order 6, on the ESP32-H2: version 16 is accepted, version 17 refused with 29
     ∷ value (check (forH2 16 0xFF) (boardOf (esp32h2 .0) 0) .answer) (gives (304 ∷ 0 ∷ 16 ∷ 1 ∷ []))
     ∷ value (check (forH2 17 0xFE) (boardOf (esp32h2 .0) 0) .answer) (record { number = 29; values = 36 ∷ [] })
     -- 0x0000FFFF raised to 17: unchanged; 0xFFFF0000 holds version 0, and raised to 1 it is 0xFFFF0001

@@ -1,5 +1,5 @@
-//! Runs the vectors of sectors, boot, power cuts and slices of check words through the static library: reads the cases on standard
-//! input, 256 bytes each, and prints what `tests/vectors/cases.py` says of each.
+//! Runs the vectors of digests, sectors, boot, power cuts and slices of check words through the static library: reads the cases on
+//! standard input, 256 bytes each, and prints what `tests/vectors/cases.py` says of each.
 
 use ota_tests::ffi::{self, Node, Settings};
 use ota_tests::settings::Board;
@@ -61,11 +61,12 @@ fn main() {
                 fill(part, &bytes[16..][..case.size(12)], &bytes[124..126]);
             }
             7 => lines += &list(&case, &mut buffers),
-            11 => lines += &active(&case, &buffers),
-            12 | 13 => lines += &rewrite(&case, &mut buffers),
-            14 => lines += &boot(&case, &mut buffers),
-            15 => lines += &cuts(&case, &buffers),
-            16 => lines += &words(&case),
+            11 => lines += &digest(&buffers.flash[..case.size(12)]),
+            13 => lines += &active(&case, &buffers),
+            14 | 15 => lines += &rewrite(&case, &mut buffers),
+            16 => lines += &boot(&case, &mut buffers),
+            17 => lines += &cuts(&case, &buffers),
+            18 => lines += &words(&case),
             kind => panic!("no kind {kind}"),
         }
     }
@@ -89,6 +90,12 @@ fn list(case: &Case, buffers: &mut Buffers) -> String {
     format!("list {number} {} {}\n", out[0], out[1])
 }
 
+fn digest(message: &[u8]) -> String {
+    let mut digest = [0; 32];
+    let number = ffi::sha256(message, &mut digest);
+    format!("digest {number} {}\n", sum(&digest))
+}
+
 fn active(case: &Case, buffers: &Buffers) -> String {
     let first = &buffers.otadata[..case.size(4)];
     let second = &buffers.otadata[SECTOR..][..case.size(8)];
@@ -101,7 +108,7 @@ fn active(case: &Case, buffers: &Buffers) -> String {
 fn rewrite(case: &Case, buffers: &mut Buffers) -> String {
     let sector = &mut buffers.otadata[SECTOR * case.half() as usize..][..case.size(4)];
     let record = &case.0[80..][..case.size(8) % 256];
-    let (name, number) = if case.0[0] == 13 {
+    let (name, number) = if case.0[0] == 15 {
         ("rewrite", ffi::rewrite(sector, record))
     } else {
         let from = case.size(12);

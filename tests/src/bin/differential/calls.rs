@@ -1,5 +1,7 @@
 //! Each call of the library beside the model's, on the same bytes.
 
+use crate::digests;
+use crate::overlooked::{self, exchange, Overlooked, Patches};
 use crate::revisions::{self, Limits};
 use crate::tally::Tally;
 use ota_tests::boot::{self, App, Started};
@@ -12,6 +14,7 @@ use ota_tests::refusal::{number_of, Refusal};
 use ota_tests::rng::Rng;
 use ota_tests::sector::{self, SECTOR_SIZE, STORES};
 use ota_tests::settings::{self, Board, Settings};
+use ota_tests::sha256;
 use ota_tests::update::{self, Marked};
 use std::fmt::{Debug, Write};
 
@@ -52,11 +55,16 @@ pub fn to_be_met() -> Vec<String> {
         things.extend(WITH_IMAGE.map(|way| format!("{way}, {digest}")));
     }
     things.extend(revisions::to_be_met());
+    things.extend(digests::to_be_met());
+    things.extend(overlooked::to_be_met());
     things.extend(Drawn::all().iter().map(|drawn| format!("read_sector: {}", drawn.name())));
     things.extend(
         [
             "check_words",
             "check_words: no sequence",
+            "sha256: whole blocks",
+            "sha256: the padding ends the last block",
+            "sha256: the padding fills one block more",
             "check_list: with factory",
             "check_list: without factory",
             "read_sector: wrong size",
@@ -92,12 +100,15 @@ pub struct Run {
     case: u64,
     rng: Rng,
     flash: Vec<u8>,
+    /// What to patch in the flash of the case so that one thing is overlooked.
+    patches: [(Overlooked, Patches); 2],
     pub tally: Tally,
 }
 
 impl Run {
     pub fn new(seed: u64) -> Run {
-        Run { seed, case: 0, rng: Rng::new(seed), flash: vec![0xFF; FLASH_SHARED], tally: Tally::default() }
+        let (flash, patches) = (vec![0xFF; FLASH_SHARED], Overlooked::ALL.map(|thing| (thing, Patches::new())));
+        Run { seed, case: 0, rng: Rng::new(seed), flash, patches, tally: Tally::default() }
     }
 
     /// One case of everything; it depends on the seed and its number alone.
@@ -113,6 +124,8 @@ impl Run {
         self.node();
         self.check_words();
         self.read_drawn();
+        self.check_drawn();
+        self.sha256();
     }
 
     /// The library has written nothing to the flash.
@@ -304,20 +317,60 @@ impl Run {
         if self.rng.chance(3) {
             board.revision ^= 1 << self.rng.below(16);
         }
-        let lent = image.clone();
+        let number = self.check_image_on_both(&image, board);
+        if [0, 29].contains(&number) && (17..=32).contains(&record::word_at(&image, image::VERSION_PLACE)) {
+            self.tally.met(format!("check_image: {number}, version 17 to 32"));
+        }
+        self.tally_revision(&image, board, number);
+    }
+
+    /// The check of an image that is drawn for its digest.
+    fn check_drawn(&mut self) {
+        let drawn = generate::drawn_image(&mut self.rng);
+        let number = self.check_image_on_both(&drawn.image, drawn.board);
+        if !drawn.damaged {
+            let expected = digests::number(drawn.digest, drawn.flag);
+            assert_eq!(number, expected, "the model's number of {:?}, flag {}", drawn.digest, drawn.flag);
+        }
+        self.tally.met(digests::met(&drawn, number));
+    }
+
+    /// The digest of a message that begins anywhere, with every length of its last block.
+    fn sha256(&mut self) {
+        let rng = &mut self.rng;
+        let length = match rng.below(10) {
+            0..=6 => rng.below(300),
+            7..=8 => 64 * rng.below(20) + rng.pick(&[0, 1, 54, 55, 56, 57, 62, 63]),
+            _ => rng.below(5_000),
+        };
+        let mut bytes = vec![0; 8 + length];
+        rng.fill(&mut bytes);
+        let lent = bytes.clone();
+        let message = &lent[rng.below(9)..][..length];
+        let library = with_out(rng, |out| ffi::sha256(message, out));
+        self.same("sha256", &Hex(message), library, (0, sha256::digest(message)));
+        self.same_bytes("sha256", &Hex(message), &lent, &bytes);
+        self.tally.met(match length % 64 {
+            0 => "sha256: whole blocks",
+            1..=55 => "sha256: the padding ends the last block",
+            _ => "sha256: the padding fills one block more",
+        });
+        self.tally.calls += 1;
+    }
+
+    /// The number that the image gets from both.
+    fn check_image_on_both(&mut self, image: &[u8], board: Board) -> u32 {
+        let lent = image.to_vec();
         let library = with_out(&mut self.rng, |out| ffi::check_image(&lent, board, out));
-        let model = match image::check(&image, board) {
+        let model = match image::check(image, board) {
             Ok(facts) => (0, [facts.length, facts.entry.into(), facts.version.into(), facts.segments.into()]),
             Err(refusal) => (refusal.number, [refusal.place, 0, 0, 0]),
         };
-        let inputs = (board, image.len(), hex(&image[..image.len().min(400)]));
+        let inputs = (board, image.len(), Hex(&image[..image.len().min(400)]));
         self.same("check_image", &inputs, library, model);
-        self.same_bytes("check_image", &inputs, &lent, &image);
+        self.same_bytes("check_image", &inputs, &lent, image);
         self.tally.number("check_image", model.0);
-        if [0, 29].contains(&model.0) && (17..=32).contains(&record::word_at(&image, image::VERSION_PLACE)) {
-            self.tally.met(format!("check_image: {}, version 17 to 32", model.0));
-        }
-        self.tally_revision(&image, board, model.0);
+        model.0
     }
 
     /// How the revision lies to an image's minimum and maximum, and which other number the image gets first, or would get next.
@@ -347,6 +400,7 @@ impl Run {
     fn node(&mut self) {
         let case = generate::node(&mut self.rng);
         self.lay_images(&case);
+        self.patches = Overlooked::ALL.map(|thing| (thing, thing.patches(&case, &self.flash)));
         let list = case.list.words.clone();
         self.boot(&case);
         self.set_boot(&case);
@@ -398,21 +452,21 @@ impl Run {
             let way = way_of(started, &otadata);
             self.tally.met(format!("boot: {way}, {}", self.digest_of(case, started.app)));
         }
-        self.boot_if_all_fit(case, &reply);
+        self.boot_if_overlooked(case, &reply);
     }
 
-    /// Whether the revision alone is why a boot starts no app or another one, and which way it would have gone.
-    fn boot_if_all_fit(&mut self, case: &NodeCase, reply: &Result<Started, Refusal>) {
+    /// Whether one thing alone is why a boot starts no app or another one, and which way it would have gone.
+    fn boot_if_overlooked(&mut self, case: &NodeCase, reply: &Result<Started, Refusal>) {
         let settings = plain(case.settings);
-        let (fitting, otadata) = self.if_all_fit(case, case.otadata.clone(), |flash, otadata| {
-            boot::boot(&case.list.words, flash, otadata, &settings)
-        });
-        if fitting != *reply {
-            let started = fitting.expect("what passed still does");
-            self.tally.met(format!("boot: {} but for the revision", way_of(&started, &otadata)));
-        }
-        if fitting.is_ok() && reply.is_err() {
-            self.tally.met("boot: 10 for the revision alone");
+        let model = |flash: &[u8], otadata: &mut [u8]| boot::boot(&case.list.words, flash, otadata, &settings);
+        for (thing, overlooked, otadata) in self.if_overlooked(case, &case.otadata, model) {
+            if overlooked != *reply {
+                let started = overlooked.expect("what passed still does");
+                self.tally.met(format!("boot: {} but for the {thing}", way_of(&started, &otadata)));
+            }
+            if overlooked.is_ok() && reply.is_err() {
+                self.tally.met(format!("boot: 10 for the {thing} alone"));
+            }
         }
     }
 
@@ -485,25 +539,29 @@ impl Run {
             self.tally.met(format!("mark_invalid: sector {number} rewritten"));
         }
         if [0, 9].contains(&number) {
-            self.fallback_if_all_fit(case, number, otadata);
+            self.fallback_if_overlooked(case, number, otadata);
         }
     }
 
-    /// Whether the revision alone is why there is nothing to fall back to, or another app than there would be.
-    fn fallback_if_all_fit(&mut self, case: &NodeCase, number: u32, left: Vec<u8>) {
+    /// Whether one thing alone is why there is nothing to fall back to, or another app than there would be.
+    fn fallback_if_overlooked(&mut self, case: &NodeCase, number: u32, mut left: Vec<u8>) {
         let (list, settings) = (&case.list.words, plain(case.settings));
         if number == 9 {
-            let (fitting, _) = self.if_all_fit(case, left, |flash, otadata| {
-                update::mark_invalid(list, flash, otadata, &settings, case.slot)
-            });
-            if fitting.is_ok() {
-                self.tally.met("mark_invalid: 9 for the revision alone");
+            let model =
+                |flash: &[u8], otadata: &mut [u8]| update::mark_invalid(list, flash, otadata, &settings, case.slot);
+            for (thing, overlooked, _) in self.if_overlooked(case, &left, model) {
+                if overlooked.is_ok() {
+                    self.tally.met(format!("mark_invalid: 9 for the {thing} alone"));
+                }
             }
         } else {
             let boot = |flash: &[u8], otadata: &mut [u8]| boot::boot(list, flash, otadata, &settings);
-            let fallback = boot(self.flash_of(case), &mut left.clone());
-            if fallback != self.if_all_fit(case, left, boot).0 {
-                self.tally.met("mark_invalid: another fallback for the revision alone");
+            let overlooked = self.if_overlooked(case, &left, boot);
+            let fallback = boot(self.flash_of(case), &mut left);
+            for (thing, other, _) in overlooked {
+                if other != fallback {
+                    self.tally.met(format!("mark_invalid: another fallback for the {thing} alone"));
+                }
             }
         }
     }
@@ -575,19 +633,23 @@ impl Run {
         }
     }
 
-    /// What the model gives where every image of the node fits, and how it leaves otadata. The images' limits are cleared meanwhile.
-    fn if_all_fit<R>(
+    /// What the model gives where one thing is overlooked, for each that an image of the node is refused for, and how it leaves otadata.
+    fn if_overlooked<R>(
         &mut self,
         case: &NodeCase,
-        mut otadata: Vec<u8>,
-        model: impl FnOnce(&[u8], &mut [u8]) -> R,
-    ) -> (R, Vec<u8>) {
-        for (offset, _) in &case.images {
-            generate::limit_revisions(&mut self.flash[*offset..], 0, 0);
+        before: &[u8],
+        model: impl Fn(&[u8], &mut [u8]) -> R,
+    ) -> Vec<(&'static str, R, Vec<u8>)> {
+        let flash = &mut self.flash[..case.list.flash_len];
+        let mut replies = Vec::new();
+        for (thing, patches) in self.patches.iter_mut().filter(|(_, patches)| !patches.is_empty()) {
+            let mut otadata = before.to_vec();
+            exchange(flash, patches);
+            let reply = model(flash, &mut otadata);
+            exchange(flash, patches);
+            replies.push((thing.name(), reply, otadata));
         }
-        let reply = model(self.flash_of(case), &mut otadata);
-        self.lay_images(case);
-        (reply, otadata)
+        replies
     }
 
     /// Whether the image of an app that was accepted has a digest.
@@ -597,7 +659,7 @@ impl Run {
             App::Slot(slot) => 16 + slot,
         };
         let entry = case.list.words.chunks(3).find(|entry| entry[0] == subtype).expect("the app is listed");
-        match self.flash[entry[1] as usize + 23] {
+        match self.flash[entry[1] as usize + image::FLAG_PLACE] {
             0 => "no digest",
             _ => "digest",
         }
@@ -636,14 +698,16 @@ impl Run {
         call: &'static str,
         case: &NodeCase,
         reply: &Result<T, Refusal>,
-        model: impl FnOnce(&[u8], &mut [u8]) -> Result<T, Refusal>,
+        model: impl Fn(&[u8], &mut [u8]) -> Result<T, Refusal>,
     ) {
         self.tally_node(call, case, number_of(reply));
         match reply {
             Err(Refusal::Image(refusal)) => {
                 self.tally.image_number(call, refusal.number);
-                if self.if_all_fit(case, case.otadata.clone(), model).0.is_ok() {
-                    self.tally.met(format!("{call}: 5 for the revision alone"));
+                for (thing, overlooked, _) in self.if_overlooked(case, &case.otadata, model) {
+                    if overlooked.is_ok() {
+                        self.tally.met(format!("{call}: 5 for the {thing} alone"));
+                    }
                 }
             }
             Err(Refusal::TooOld) => {
@@ -799,6 +863,15 @@ pub fn hex(bytes: &[u8]) -> String {
         let _ = write!(text, "{byte:02x}");
         text
     })
+}
+
+/// Bytes as they are printed where the two differ, and only then.
+struct Hex<'a>(&'a [u8]);
+
+impl Debug for Hex<'_> {
+    fn fmt(&self, f: &mut std::fmt::Formatter) -> std::fmt::Result {
+        f.write_str(&hex(self.0))
+    }
 }
 
 /// What to add to the text of a sector of wrong size.

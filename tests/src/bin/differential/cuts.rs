@@ -5,19 +5,27 @@
 use crate::calls::{hex, plain};
 use ota_tests::boot::{boot, passes, App, Started};
 use ota_tests::ffi::{self, Node};
-use ota_tests::generate::{self, limit_revisions, plain_node_of};
-use ota_tests::image::Facts;
+use ota_tests::generate::{self, limit_revisions, plain_node_of, spoil_digest};
+use ota_tests::image::{self, Facts};
 use ota_tests::partition::{self, Partitions};
 use ota_tests::record::{make, Reading, Record, State, HIGHEST_SEQUENCE};
 use ota_tests::rng::Rng;
 use ota_tests::sector::{self, active, read, readings, OTADATA_SIZE, SECTOR_SIZE, STORES};
 use ota_tests::settings::{Board, Settings};
 
-/// The versions of the apps of four slots, of which the last is erased. Of more slots, the next four have the same, and so on.
-const SLOTS: [Option<u32>; 4] = [Some(3), Some(5), Some(1), None];
+/// The versions of the apps of four slots. Of more slots, the next four have the same, and so on.
+const VERSIONS: [u32; 4] = [3, 5, 1, 5];
 
-/// The minimum and the maximum revision of those that aren't erased.
-const LIMITS: [(u16, u16); 3] = [(0, 0), (300, 301), (301, 65_535)];
+/// Their minimum and maximum revision.
+const LIMITS: [(u16, u16); 4] = [(0, 0), (300, 301), (301, 65_535), (0, 301)];
+
+/// What the last of four slots holds.
+#[derive(Clone, Copy, PartialEq, Eq, Debug)]
+enum LastSlot {
+    Erased,
+    /// An app that would pass if its digest were right.
+    WrongDigest,
+}
 
 const BOARD: Board = Board { chip_id: 0, revision: 301 };
 const OFF: ffi::Settings = ffi::Settings { board: BOARD, efuse: 0b10_0110, rollback: 0, anti_rollback: 0 };
@@ -47,6 +55,7 @@ pub struct Cuts {
     pub starts_rewritten: u64,
     pub starts_untouched: u64,
     pub wrong_revision: u64,
+    pub wrong_digest: u64,
 }
 
 pub fn run(seed: u64) -> Cuts {
@@ -62,6 +71,7 @@ pub fn run(seed: u64) -> Cuts {
         ("the rewritten record's app", cuts.starts_rewritten),
         ("the untouched record's app", cuts.starts_untouched),
         ("the active record's app refused for the revision alone", cuts.wrong_revision),
+        ("the active record's app refused for the digest alone", cuts.wrong_digest),
     ] {
         assert!(count > 0, "no cut left {what}");
     }
@@ -71,7 +81,7 @@ pub fn run(seed: u64) -> Cuts {
 /// Several rewrites, each cut at all 4,129 places.
 fn every_cut(cuts: &mut Cuts) {
     let blank = vec![0xFF; SECTOR_SIZE];
-    // With four slots sequence 1 names slot 0, 2 slot 1, 3 slot 2, 4 slot 3 (erased), and so on.
+    // With four slots sequence 1 names slot 0, 2 slot 1, 3 slot 2, 4 slot 3 (erased, or with a wrong digest), and so on.
     let starts = [
         blank.clone(),
         sector_with(record(5, 0xFF, State::Valid), 0xFF),
@@ -96,11 +106,12 @@ fn every_cut(cuts: &mut Cuts) {
     let others = [record(9, 0xFF, State::Valid), record(6, 0x41, State::New)];
     for (turn, start) in starts.iter().enumerate() {
         for (step, new) in news.iter().enumerate() {
-            // Each start meets each new record; sector, settings, factory and the other record take turns.
+            // Each start meets each new record; sector, settings, factory, the other record and the last slot take turns.
             let settings = SETTINGS[(turn + step / 2) % SETTINGS.len()];
             let factory = (step % 3 == 0 && settings.anti_rollback == 0).then_some(9);
             let other = others[(turn / 2 + step) % 2];
-            let mut setup = Setup::new(4, start, (turn + step) % 2, &other, settings, factory);
+            let last_slot = if turn % 2 == 0 { LastSlot::WrongDigest } else { LastSlot::Erased };
+            let mut setup = Setup::new(4, start, (turn + step) % 2, &other, settings, factory, last_slot);
             setup.rewrite(new, STORES, |setup, cut| setup.hold(cuts, start, new, cut));
             cuts.rewrites += 1;
         }
@@ -122,7 +133,8 @@ fn lists_of_rewrites(cuts: &mut Cuts, seed: u64) {
         let highest = HIGHEST_SEQUENCE - (HIGHEST_SEQUENCE - 1 - slot) % n;
         let sequence = rng.pick(&[slot + 1, slot + 1 + n, slot + 1 + 2 * n, highest]);
         let other = record(sequence, 0xFF, rng.pick(&[State::Valid, State::New]));
-        let mut setup = Setup::new(n as usize, &start, rng.below(2), &other, settings, None);
+        let last_slot = rng.pick(&[LastSlot::Erased, LastSlot::WrongDigest]);
+        let mut setup = Setup::new(n as usize, &start, rng.below(2), &other, settings, None, last_slot);
         for _ in 0..1 + rng.below(5) {
             let new = good_record(&mut rng);
             let last = match rng.below(4) {
@@ -183,13 +195,18 @@ impl Setup {
         other: &[u8; 32],
         settings: ffi::Settings,
         factory: Option<u32>,
+        last_slot: LastSlot,
     ) -> Setup {
-        let slots: Vec<Option<u32>> = SLOTS.into_iter().cycle().take(n).collect();
+        let slots: Vec<Option<u32>> = VERSIONS.into_iter().cycle().map(Some).take(n).collect();
         let (list, mut flash) = plain_node_of(settings.board.chip_id, &slots, factory);
         let partitions = partition::check(&list, flash.len()).unwrap();
-        for (slot, part) in partitions.slots.iter().enumerate() {
-            if let Some((minimum, maximum)) = LIMITS.get(slot % SLOTS.len()) {
-                limit_revisions(&mut flash[part.clone()], *minimum, *maximum);
+        for (part, (minimum, maximum)) in partitions.slots.iter().zip(LIMITS.into_iter().cycle()) {
+            limit_revisions(&mut flash[part.clone()], minimum, maximum);
+        }
+        for part in partitions.slots.iter().skip(3).step_by(4) {
+            match last_slot {
+                LastSlot::Erased => flash[part.clone()].fill(0xFF),
+                LastSlot::WrongDigest => spoil_digest(&mut flash[part.clone()]),
             }
         }
         let mut otadata = vec![0xFF; OTADATA_SIZE];
@@ -220,6 +237,12 @@ impl Setup {
     fn passing_on(&self, board: Board, record: &Record) -> Option<Facts> {
         let app = App::Slot(record.slot(self.partitions.n()));
         passes(&self.partitions, &self.flash, &Settings { board, ..self.model_settings() }, app)
+    }
+
+    /// Whether the digest alone is why a record's app doesn't pass. No test of the image comes after that of the digest.
+    fn wrong_digest(&self, record: &Record) -> bool {
+        let part = self.partitions.slots[record.slot(self.partitions.n()) as usize].clone();
+        image::check(&self.flash[part], self.settings.board).is_err_and(|refusal| refusal.number == 30)
     }
 
     /// Does the stores of a rewrite up to the cut `last`, one at a time on both sides, and calls `at` at each cut.
@@ -305,6 +328,7 @@ impl Setup {
         if let Some(first) = active(&marked).and_then(|number| marked[number]) {
             let fits_301 = self.passing_on(Board { revision: 301, ..settings.board }, &first).is_some();
             cuts.wrong_revision += u64::from(fits_301 && self.passing(&first).is_none());
+            cuts.wrong_digest += u64::from(self.wrong_digest(&first));
         }
         if through == *number {
             cuts.starts_rewritten += 1;

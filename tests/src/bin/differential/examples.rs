@@ -1,17 +1,20 @@
 //! The examples of document 01, and those of document 02 with nine slots and more, of why a sector is empty, of sixteen version bits, of
-//! replies with the image's length and entry address and of wrong revisions, held on both sides: the model and the library.
+//! replies with the image's length and entry address, of wrong revisions and of wrong digests, held on both sides: the model and the
+//! library.
 
 use crate::calls::{boot_out, mark_valid_out, plain, set_boot_out};
 use ota_tests::boot::{self, App};
 use ota_tests::ffi::{self, Node};
 use ota_tests::generate::{
-    limit_revisions, plain_image, plain_loadable, plain_node, plain_node_of, two_sectors, LIMITS,
+    add_digest, build_image, edit, limit_revisions, plain_image, plain_loadable, plain_node, plain_node_of,
+    spoil_digest, two_sectors, LIMITS,
 };
 use ota_tests::image::Loadable;
 use ota_tests::record::{self, State};
 use ota_tests::refusal::number_of;
+use ota_tests::rng::Rng;
 use ota_tests::settings::Board;
-use ota_tests::{image, partition, sector, settings, update};
+use ota_tests::{image, partition, sector, settings, sha256, update};
 use std::time::Instant;
 
 const BOARD: Board = Board { chip_id: 0, revision: 301 };
@@ -48,6 +51,15 @@ pub fn run() -> usize {
         set_boots_by_revision,
         marks_by_revision,
         fallbacks_by_revision,
+        digests,
+        bits_that_cancel,
+        what_the_digest_is_of,
+        a_wrong_digest_beside_other_faults,
+        thirteen_segments,
+        boots_by_digest,
+        set_boots_by_digest,
+        marks_by_digest,
+        fallbacks_by_digest,
     ];
     examples.iter().for_each(|example| example());
     examples.len()
@@ -751,6 +763,264 @@ fn fallbacks_by_revision() {
         let reply = update::mark_invalid(&list, &flash, &mut model, &plain(settings), 2);
         both(number, number_of(&reply), if revision < 300 { 9 } else { 0 });
         let state = if revision < 300 { State::Valid } else { State::Invalid };
+        both(library, model, two_sectors(valid(2), made(3, state)));
+    }
+}
+
+/// What the smallest image gets with a right digest, with a wrong one, and without a digest.
+const RIGHT_DIGEST: (u32, u64) = (0, 336);
+const WRONG_DIGEST: (u32, u64) = (30, 304);
+const NO_DIGEST: (u32, u64) = (0, 304);
+
+/// The digest of the smallest image, by another program.
+#[rustfmt::skip]
+const SMALLEST: [u8; 32] = [
+    0xF4, 0x0B, 0x6A, 0x38, 0x68, 0x78, 0xED, 0x62, 0xDC, 0x45, 0x24, 0x4F, 0x99, 0x17, 0x7A, 0xDE,
+    0x9E, 0x22, 0xEF, 0xDC, 0x47, 0x2B, 0x51, 0xCF, 0xF6, 0x3D, 0x27, 0x87, 0xF1, 0x50, 0xBE, 0x41,
+];
+
+/// Right, and with each bit of each byte flipped.
+fn digests() {
+    let image = plain_image(0, 1, 256, true);
+    assert_eq!(image[304..], SMALLEST);
+    check_both(&image, RIGHT_DIGEST);
+    for bit in 0..256 {
+        let mut wrong = image.clone();
+        wrong[304 + bit / 8] ^= 1 << (bit % 8);
+        check_both(&wrong, WRONG_DIGEST);
+    }
+    for bytes in [[0; 32], [0xFF; 32], [0xD1; 32]] {
+        check_both(&[&image[..304], &bytes].concat(), WRONG_DIGEST);
+    }
+}
+
+/// Two flipped bits of data: the xor stays the same, the digest doesn't.
+fn bits_that_cancel() {
+    for (digest, right, wrong) in [(false, NO_DIGEST, NO_DIGEST), (true, RIGHT_DIGEST, WRONG_DIGEST)] {
+        let image = plain_image(0, 1, 256, digest);
+        check_both(&image, right);
+        for (first, second, bit) in [(40, 287, 0), (40, 41, 7), (63, 64, 3), (127, 128, 4), (100, 200, 1)] {
+            let mut changed = image.clone();
+            changed[first] ^= 1 << bit;
+            changed[second] ^= 1 << bit;
+            check_both(&changed, wrong);
+        }
+    }
+}
+
+/// All bytes before it, also those that no other test reads, and none after it.
+fn what_the_digest_is_of() {
+    let image = plain_image(0, 1, 256, true);
+    let header = [2, 3, 4, 5, 6, 7, 8, 9, 10, 11, 14, 19, 20, 21, 22];
+    for place in header.into_iter().chain(24..28).chain(288..303) {
+        let [mut with_its_own, mut with_the_old, mut without] = [image.clone(), image.clone(), image.clone()];
+        edit(&mut with_its_own, |image| image[place] ^= 0x81);
+        check_both(&with_its_own, RIGHT_DIGEST);
+        with_the_old[place] ^= 0x81;
+        check_both(&with_the_old, WRONG_DIGEST);
+        without[23] = 0;
+        without[place] ^= 0x81;
+        check_both(&without, NO_DIGEST);
+    }
+    // Of fewer bytes than all before it: to the end of the segment, and to the checksum.
+    for end in [0, 288, 303] {
+        check_both(&[&image[..304], &sha256::digest(&image[..end])].concat(), WRONG_DIGEST);
+    }
+    for tail in [&[0][..], &[0xFF; 32], &SMALLEST] {
+        check_both(&[&image[..], tail].concat(), RIGHT_DIGEST);
+        check_both(&[&image[..304], &SMALLEST[..31], &[!SMALLEST[31]], tail].concat(), WRONG_DIGEST);
+    }
+}
+
+/// Every other number comes before 30, beside a wrong digest and beside one that is right for the bytes.
+fn a_wrong_digest_beside_other_faults() {
+    let good = plain_image(0, 1, 256, true);
+    let fault = |place: usize, bits: u8| {
+        let mut image = good.clone();
+        image[place] ^= bits;
+        image
+    };
+    let mut too_new = plain_image(0, 33, 256, true);
+    spoil_digest(&mut too_new);
+    for (mut image, expected) in [
+        (good[..287].to_vec(), (20, 0)),
+        (fault(0, 1), (21, 0)),
+        (fault(1, 1), (22, 1)),
+        (fault(1, 0x10), (22, 1)),
+        (fault(12, 1), (23, 12)),
+        (fault(13, 1), (23, 12)),
+        (fault(16, 2), WRONG_REVISION),
+        (fault(17, 2), WRONG_REVISION),
+        (fault(23, 2), (24, 23)),
+        (fault(28, 2), (25, 24)),
+        (fault(32, 1), (26, 32)),
+        (good[..303].to_vec(), (27, 288)),
+        (good[..304].to_vec(), (27, 288)),
+        (fault(300, 1)[..335].to_vec(), (27, 288)),
+        (fault(303, 1), (28, 303)),
+        (fault(40, 1), (28, 303)),
+        (too_new, (29, 36)),
+    ] {
+        check_both(&image, expected);
+        if image.len() == 336 {
+            let digest = sha256::digest(&image[..304]);
+            image[304..].copy_from_slice(&digest);
+            check_both(&image, expected);
+        }
+    }
+}
+
+/// The segments of source document 002: length, load address, place of the header.
+const THIRTEEN: [(usize, u32, usize); 13] = [
+    (0x13CE0, 0x3F40_0020, 0x00018),
+    (0x00000, 0x3FF8_0000, 0x13D00),
+    (0x00000, 0x3FF8_0000, 0x13D08),
+    (0x028E0, 0x3FFB_0000, 0x13D10),
+    (0x00000, 0x3FFB_28E0, 0x165F8),
+    (0x00400, 0x4008_0000, 0x16600),
+    (0x09600, 0x4008_0400, 0x16A08),
+    (0x62E4C, 0x400D_0018, 0x20010),
+    (0x06CEC, 0x4008_9A00, 0x82E64),
+    (0x00000, 0x400C_0000, 0x89B58),
+    (0x00004, 0x5000_0000, 0x89B60),
+    (0x00000, 0x5000_0004, 0x89B6C),
+    (0x00000, 0x5000_0004, 0x89B74),
+];
+
+/// The image of source document 002 with made-up data, with or without a digest.
+fn image_of_document_002(digest: bool) -> Vec<u8> {
+    let mut rng = Rng::new(2);
+    let mut segments: Vec<Vec<u8>> = THIRTEEN.iter().map(|(length, ..)| vec![0; *length]).collect();
+    segments.iter_mut().for_each(|data| rng.fill(data));
+    segments[0][..8].copy_from_slice(&[0x32, 0x54, 0xCD, 0xAB, 1, 0, 0, 0]);
+    let mut image = build_image(0, 0x4008_0EA4, &segments, digest);
+    for (length, address, place) in THIRTEEN {
+        assert_eq!(record::word_at(&image, place + 4), length as u32, "the header of a segment");
+        image[place..][..4].copy_from_slice(&address.to_le_bytes());
+    }
+    if digest {
+        add_digest(&mut image);
+    }
+    image
+}
+
+fn thirteen_segments() {
+    let mut image = image_of_document_002(true);
+    assert_eq!(image.len(), 564_128);
+    check_both(&image, (0, 564_128));
+    let mut out = [9; 4];
+    assert_eq!((ffi::check_image(&image, BOARD, &mut out), out), (0, [564_128, 0x4008_0EA4, 1, 13]));
+    image[0x30000] ^= 4;
+    image[0x60000] ^= 4;
+    check_both(&image, (30, 0x89B80));
+    image[0x30000] ^= 4;
+    check_both(&image, (28, 0x89B7F));
+    image[0x60000] ^= 4;
+    for place in [0x89B80, 0x89B9F] {
+        image[place] ^= 1;
+        check_both(&image, (30, 0x89B80));
+        image[place] ^= 1;
+    }
+    check_both(&image, (0, 564_128));
+    check_both(&image_of_document_002(false), (0, 0x89B80));
+}
+
+/// Three slots and factory, all with a digest. Those at the given places, factory after the slots, have a wrong one.
+fn digest_node(wrong: &[usize]) -> (Vec<u32>, Vec<u8>) {
+    let (list, mut flash) = plain_node(&[Some(1); 3], Some(1));
+    flash.chunks_mut(0x1_0000).for_each(add_digest);
+    wrong.iter().for_each(|place| spoil_digest(&mut flash[place * 0x1_0000..]));
+    (list, flash)
+}
+
+/// The whole lengths of those images. The digest is the last 32 bytes.
+const WITH_DIGEST: [u32; 4] = [336, 352, 368, 384];
+
+/// A new record of slot 2 and a valid one of slot 1: boot falls back to slot 1, to factory, and to the first slot that passes. The record
+/// of an app with a wrong digest stays new.
+fn boots_by_digest() {
+    let records = [valid(2), made(3, State::New)];
+    for (wrong, [first, second], state, [kind, slot, sector], place) in [
+        (&[][..], records, State::Pending, [2, 2, 1], 2),
+        (&[0, 1, 3], records, State::Pending, [2, 2, 1], 2),
+        (&[2], records, State::New, [2, 1, 0], 1),
+        (&[0, 2, 3], records, State::New, [2, 1, 0], 1),
+        (&[1, 2], records, State::New, [1, 0, 2], 3),
+        (&[0, 1, 2], records, State::New, [1, 0, 2], 3),
+        (&[1, 2, 3], records, State::New, [2, 0, 2], 0),
+        (&[3], [None, None], State::New, [2, 0, 2], 0),
+        (&[0, 3], [None, None], State::New, [2, 1, 2], 1),
+        (&[0, 1, 3], [None, None], State::New, [2, 2, 2], 2),
+    ] {
+        let (list, flash) = digest_node(wrong);
+        let otadata = two_sectors(first, second);
+        let out = [kind, slot, sector, 0, WITH_DIGEST[place], ENTRIES[place]];
+        let left = boot_both(&list, &flash, &otadata, ROLLBACK, (0, out));
+        assert_eq!(left, two_sectors(first, second.and(made(3, state))));
+    }
+    let (list, flash) = digest_node(&[0, 1, 2, 3]);
+    let otadata = two_sectors(valid(2), made(3, State::New));
+    assert_eq!(boot_both(&list, &flash, &otadata, ROLLBACK, (10, [0, 0, 2, 0, 0, 0])), otadata);
+}
+
+/// What set-boot gives for a slot of that node: 0 with its image, or 5 with image number 30.
+fn by_digest(slot: usize, wrong: bool) -> (u32, [u64; 4]) {
+    let length = WITH_DIGEST[slot].into();
+    match wrong {
+        true => (5, [30, length - 32, 0, 0]),
+        false => (0, [0, 0, length, ENTRIES[slot].into()]),
+    }
+}
+
+/// The others' digests are wrong or right the other way round. Slot 1 is named already.
+fn set_boots_by_digest() {
+    let otadata = two_sectors(valid(2), None);
+    for slot in 0..3 {
+        let others: Vec<usize> = (0..4).filter(|place| *place != slot).collect();
+        for (wrong, refused) in [(&[slot][..], true), (&others, false)] {
+            let (list, flash) = digest_node(wrong);
+            let left = set_boot_both(&list, &flash, &otadata, ROLLBACK, slot as u32, by_digest(slot, refused));
+            assert_eq!(left == otadata, refused || slot == 1);
+        }
+    }
+}
+
+fn marks_by_digest() {
+    for slot in 0..3 {
+        let sequence = slot as u32 + 1;
+        let pending = two_sectors(made(sequence, State::Pending), None);
+        let others: Vec<usize> = (0..4).filter(|place| *place != slot).collect();
+        for (wrong, refused) in [(&[slot][..], true), (&others, false)] {
+            let (list, flash) = digest_node(wrong);
+            let (number, [image_number, place, length, entry]) = by_digest(slot, refused);
+            let expected = (number, [0, image_number, place, length, entry]);
+            let mark = |otadata: &[u8]| mark_valid_both(&list, &flash, otadata, ROLLBACK, slot as u32, expected);
+            let marked = two_sectors(valid(sequence), None);
+            assert_eq!(mark(&pending), if refused { &pending } else { &marked }[..]);
+            assert_eq!(mark(&marked), marked);
+        }
+    }
+}
+
+/// Slot 2 is given up: slot 1, factory or slot 0 is there to fall back to, or none.
+fn fallbacks_by_digest() {
+    let before = two_sectors(valid(2), valid(3));
+    for (wrong, number) in [
+        (&[][..], 0),
+        (&[2], 0),
+        (&[1], 0),
+        (&[1, 3], 0),
+        (&[0, 1], 0),
+        (&[0, 3], 0),
+        (&[0, 1, 3], 9),
+        (&[0, 1, 2, 3], 9),
+    ] {
+        let (list, flash) = digest_node(wrong);
+        let (mut library, mut model) = (before.clone(), before.clone());
+        let reply = ffi::mark_invalid(Node { list: &list, flash: &flash, otadata: &mut library }, ROLLBACK, 2);
+        let model_reply = update::mark_invalid(&list, &flash, &mut model, &plain(ROLLBACK), 2);
+        both(reply, number_of(&model_reply), number);
+        let state = if number == 9 { State::Valid } else { State::Invalid };
         both(library, model, two_sectors(valid(2), made(3, state)));
     }
 }

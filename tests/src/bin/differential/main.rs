@@ -5,7 +5,9 @@
 
 mod calls;
 mod cuts;
+mod digests;
 mod examples;
+mod overlooked;
 mod revisions;
 mod tally;
 
@@ -51,6 +53,7 @@ fn main() {
     println!("{:>9}  boot starts the rewritten sector's app", cuts.starts_rewritten);
     println!("{:>9}  the untouched sector's app", cuts.starts_untouched);
     println!("{:>9}  the active record's app is refused for the revision alone", cuts.wrong_revision);
+    println!("{:>9}  for the digest alone", cuts.wrong_digest);
     println!();
     run.tally.assert_met(&calls::to_be_met());
     println!(

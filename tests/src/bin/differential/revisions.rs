@@ -1,6 +1,5 @@
 //! The minimum and the maximum revision of an image, and what must come up of them in a run.
 
-use crate::calls::WAYS;
 use ota_tests::image::{MAXIMUM_PLACE, MINIMUM_PLACE};
 
 /// How the revision lies to an image's minimum and maximum, by the number that the image gets. [`Limits::edges`] names them.
@@ -45,18 +44,14 @@ const EDGES: [(u32, &[&str]); 2] = [
     ),
 ];
 
-/// What must come up: every edge where the image is accepted or refused with 31, 31 beside each other number, and each call that would
-/// have gone another way if every image had fitted.
+/// What must come up: every edge where the image is accepted or refused with 31, and 31 beside each other number.
 pub fn to_be_met() -> Vec<String> {
     let mut things = Vec::new();
     for (number, edges) in EDGES {
         things.extend(edges.iter().map(|edge| format!("check_image: {number}, {edge}")));
     }
     things.extend((20..=23).map(|number| format!("check_image: {number} before 31")));
-    things.extend((24..=29).map(|number| format!("check_image: 31 before {number}")));
-    things.extend(WAYS.map(|way| format!("boot: {way} but for the revision")));
-    let alone = ["boot: 10", "set_boot: 5", "mark_valid: 5", "mark_invalid: 9", "mark_invalid: another fallback"];
-    things.extend(alone.map(|reply| format!("{reply} for the revision alone")));
+    things.extend((24..=30).map(|number| format!("check_image: 31 before {number}")));
     things
 }
 

@@ -5,7 +5,7 @@ use std::collections::BTreeMap;
 /// How often each number and each thing to be met must come up.
 pub const AT_LEAST: u64 = 50;
 
-/// The numbers of document 01's tables and order 10's 31, by the calls that can give them.
+/// The numbers of document 01's tables, order 5's 30 and order 10's 31, by the calls that can give them.
 const NUMBERS: [(&str, &[u32]); 13] = [
     ("make_record", &[0, 17]),
     ("read_sector", &[0, 2]),
@@ -20,7 +20,7 @@ const NUMBERS: [(&str, &[u32]); 13] = [
     ("state_query", &[0, 1, 2, 4, 8]),
     ("next_slot", &[0, 1, 2, 3, 4, 11]),
     // The image numbers that come with a 5. A slot has 4,096 bytes or more, so 20 can't.
-    ("5 with", &[21, 22, 23, 24, 25, 26, 27, 28, 29, 31]),
+    ("5 with", &[21, 22, 23, 24, 25, 26, 27, 28, 29, 30, 31]),
 ];
 
 /// The calls with a list, and the numbers of slots that it is drawn with.
@@ -29,7 +29,7 @@ const WITH_LIST: [&str; 7] =
 const SLOT_COUNTS: std::ops::RangeInclusive<u32> = 2..=17;
 
 const CALL_NUMBERS: [u32; 14] = [0, 1, 2, 3, 4, 5, 6, 7, 8, 9, 10, 11, 12, 17];
-const IMAGE_NUMBERS: [u32; 12] = [0, 20, 21, 22, 23, 24, 25, 26, 27, 28, 29, 31];
+const IMAGE_NUMBERS: [u32; 13] = [0, 20, 21, 22, 23, 24, 25, 26, 27, 28, 29, 30, 31];
 
 #[derive(Default)]
 pub struct Tally {

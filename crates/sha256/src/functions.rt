@@ -1,0 +1,43 @@
+// The functions of FIPS 180-4 on words.
+ghost use mathlib.Core.Path.{_≡_};
+ghost use Rattle.sha256.specs.Sha256.{Ch, Maj, Σ₀, Σ₁, σ₀, σ₁};
+
+pub(crate) fn ch(x: u32, y: u32, z: u32) -> u32
+    ensures { λ r. ⌜ r ≡ Ch x y z ⌝ }
+{
+    z ^ (x & (y ^ z))
+}
+
+pub(crate) fn maj(x: u32, y: u32, z: u32) -> u32
+    ensures { λ r. ⌜ r ≡ Maj x y z ⌝ }
+{
+    ((x ^ y) & (y ^ z)) ^ y
+}
+
+// Σ₀.
+pub(crate) fn upper_sigma0(x: u32) -> u32
+    ensures { λ r. ⌜ r ≡ Σ₀ x ⌝ }
+{
+    (x >> 2 | x << 30) ^ (x >> 13 | x << 19) ^ (x >> 22 | x << 10)
+}
+
+// Σ₁.
+pub(crate) fn upper_sigma1(x: u32) -> u32
+    ensures { λ r. ⌜ r ≡ Σ₁ x ⌝ }
+{
+    (x >> 6 | x << 26) ^ (x >> 11 | x << 21) ^ (x >> 25 | x << 7)
+}
+
+// σ₀.
+pub(crate) fn lower_sigma0(x: u32) -> u32
+    ensures { λ r. ⌜ r ≡ σ₀ x ⌝ }
+{
+    (x >> 7 | x << 25) ^ (x >> 18 | x << 14) ^ (x >> 3)
+}
+
+// σ₁.
+pub(crate) fn lower_sigma1(x: u32) -> u32
+    ensures { λ r. ⌜ r ≡ σ₁ x ⌝ }
+{
+    (x >> 17 | x << 15) ^ (x >> 19 | x << 13) ^ (x >> 10)
+}
