@@ -1,7 +1,7 @@
 -- Laws of the hash value after blocks.
 -- Assumes nothing.
 use Prim.Native.Nat.{ℕ, zero, suc, _+_, _*_, _≤_}
-use mathlib.Core.Path.{_≡_, refl, sym, ap, _∙_}
+use mathlib.Core.Path.{_≡_, refl, sym, _∙_}
 use mathlib.Core.List.{List, _∷_, _++_}
 use native.Mathlib.Nat.{zero-add, suc-add, add-assoc}
 use native.Mathlib.Omega.{arith}
@@ -10,7 +10,7 @@ use lib.Seq.{drop-drop, drop-append-le}
 use Rattle.sha256.specs.declared.State.{State}
 use Rattle.sha256.specs.Sha256.{word, words, schedule, compressed, hashed}
 
--- the words of the bytes from `at` on, one by one; k is a literal
+-- the words from `at` on, one by one: the word k bytes further, and those after it
 pub one-word : (m : List ℕ) (at k n : ℕ) {x : ℕ} {xs : List ℕ} → x ≡ word (drop (at + k) m) → xs ≡ words n (drop (at + (k + 4)) m) → x ∷ xs ≡ words (suc n) (drop (at + k) m)
 unfolding words
 one-word m at k n e f = rw (e, f, drop-drop, add-assoc)

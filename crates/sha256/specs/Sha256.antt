@@ -2,7 +2,7 @@
 use Prim.Native.Nat.{ℕ, zero, suc, _+_, _-_, _*_, _/_, _%_, _^_}
 use mathlib.Core.List.{List, [], _∷_, _++_}
 use lib.Bits.{bitAnd, bitOr, bitXor}
-use lib.ListN.{length, getD, take, drop, replicate}
+use lib.ListN.{length, getD, drop, replicate}
 use Rattle.sha256.specs.declared.State.{State}
 
 -- ---- 3.2: operations on words
@@ -66,12 +66,12 @@ bigEndian (suc n) x = x / 2 ^ (8 * n) % 256 ∷ bigEndian n x
 abbrev pub padBytes : ℕ → ℕ → List ℕ
 padBytes n bits = 0x80 ∷ (replicate n 0 ++ bigEndian 8 bits)
 
--- after a message of so many bytes: the fewest that make it whole blocks
+-- how many zero bytes follow a message of so many bytes: the fewest that make it whole blocks
 abbrev pub zeros : ℕ → ℕ
 zeros size = (119 - size % 64) % 64
 
--- The standard's messages have fewer than 2 ^ 64 bits; of the length of a longer one the lowest 64 bits stand here, so that each message
--- has a digest
+-- what follows a message of so many bytes. The standard's have fewer than 2 ^ 64 bits; of the length of a longer one the lowest 64 bits stand
+-- here, so that each message has a digest
 unfoldable pub padding : ℕ → List ℕ
 padding size = padBytes (zeros size) (8 * size)
 

@@ -2,7 +2,7 @@
 ghost use mathlib.Core.Path.{_≡_};
 ghost use Prim.Native.Nat.{_+_, _≤_, _<_, _%_};
 ghost use mathlib.Core.List.{_++_};
-ghost use lib.ListN.{length, take, getD, set};
+ghost use lib.ListN.{length, take, getD};
 ghost use Rattle.sha256.specs.Sha256.{padBytes, bytesOf};
 ghost use Rattle.sha256.specs.Pieces.{ended as Pieces·ended, withWord};
 use crate::State;
