@@ -4,8 +4,9 @@ use Prim.Native.Nat.{ℕ, _+_, _-_, _≤_}
 use mathlib.Core.Path.{_≡_, sym, ap, _∙_}
 use mathlib.Core.List.{List, _++_}
 use native.Mathlib.Omega.{arith}
-use lib.ListN.{length, take, drop, take-append-drop, length-drop}
-use lib.Seq.{take-add, take-all}
+use lib.ListN.{length, take, drop, take-append-drop}
+use lib.Seq.{take-add}
+use Rattle.sha256.proofs.Pieces.{to-end}
 
 pub piece : (m : List ℕ) (at end : ℕ) → at ≤ end → take at m ++ take (end - at) (drop at m) ≡ take end m
 piece m at end h =
@@ -13,4 +14,4 @@ piece m at end h =
     sym (take-add at (end - at) m) ∙ ap (λ (n : ℕ). take n m) z
 
 pub rest : (m : List ℕ) (at : ℕ) → take at m ++ take (length m - at) (drop at m) ≡ m
-rest m at = rw (take-all (length m - at) (drop at m) (rw length-drop (omega arith))) (take-append-drop at m)
+rest m at = rw to-end (take-append-drop at m)

@@ -9,10 +9,7 @@ use Rattle.app_image.specs.Check.{boardOf, lengthTest, headerTests, segmentTest
 use Rattle.app_image.specs.Example.{oneSegment}
 use Rattle.worked_examples.specs.Digested.{digested, flipped}
 
-pub digested-accepted : check digested (boardOf 0 0) .answer ≡ record { number = 0; values = 336 ∷ 0 ∷ 1 ∷ 1 ∷ [] }
+pub hashed-rows : (check digested (boardOf 0 0) .answer ≡ record { number = 0; values = 336 ∷ 0 ∷ 1 ∷ 1 ∷ [] })
+    × (check (flipped digested) (boardOf 0 0) .answer ≡ record { number = 30; values = 304 ∷ [] })
 unfolding digested oneSegment width segmentsFrom badSegment xored check lengthTest headerTests segmentTest endTests same digestTest bigEndian padding K word words scheduled next extended schedule round rounds sum compressed hashed bytesOf digest
-digested-accepted = refl
-
-pub flipped-refused : check (flipped digested) (boardOf 0 0) .answer ≡ record { number = 30; values = 304 ∷ [] }
-unfolding digested oneSegment width segmentsFrom badSegment xored check lengthTest headerTests segmentTest endTests same digestTest bigEndian padding K word words scheduled next extended schedule round rounds sum compressed hashed bytesOf digest
-flipped-refused = refl
+hashed-rows = (refl, refl)

@@ -34,7 +34,7 @@ use Rattle.sectors.proofs.TwoSectors.{readings-at}
 use Rattle.boot_laws.proofs.Laws.{view-law}
 use Rattle.update_laws.proofs.Pointing.{reads, other, starts-slot}
 use Rattle.update_laws.proofs.Setting.{sets}
-use Rattle.worked_examples.proofs.Digests.{digested-accepted, flipped-refused}
+use Rattle.worked_examples.proofs.Digests.{hashed-rows}
 use Rattle.worked_examples.specs.Table.{slot, good as record-of, Node, ActiveIs, set, setRefused, boots, Holds, WorkedExamples}
 
 -- ---- set-boot
@@ -125,7 +125,7 @@ worked-examples = (
           set-refused _ _ _ (record { below = omega arith; another = refl }) refl,
           (
             boots-holds _ _ _ _ _ _ refl valid-not-pending refl refl,
-            (refl, (refl, (refl, (refl, (refl, (digested-accepted, (flipped-refused, (refl, (refl, (refl, (refl, (refl, (refl, (refl, (refl, (refl, tt)))))))))))))))),
+            (refl, (refl, (refl, (refl, (refl, (hashed-rows .0, (hashed-rows .1, (refl, (refl, (refl, (refl, (refl, (refl, (refl, (refl, (refl, tt)))))))))))))))),
           ),
         ),
       ),
