@@ -1,5 +1,5 @@
 #!/usr/bin/env python3
-"""Tests what a newcomer sees of the scripts report, library and bench/run, with a stand-in for rt that proves nothing."""
+"""Tests what a newcomer sees of the scripts report, library, bench/run and bench/picture, with a stand-in for rt that proves nothing."""
 import os
 import pathlib
 import pty
@@ -8,6 +8,7 @@ import shutil
 import subprocess
 import sys
 import tempfile
+import xml.etree.ElementTree
 
 ROOT = pathlib.Path(__file__).resolve().parents[1]
 # Builds what the scripts use next, and fails at the command that it is told to.
@@ -20,6 +21,18 @@ case "$*" in
 esac
 """
 FIRST = "report: proving and building it first, half a minute to two\n"
+# What bench/picture needs of the bench's output.
+GROWTH = """
+## Growth, {}, GB/s
+
+Some words.
+
+| Size | Checksum: library | Rust | fastest Rust | Digest: library | Rust | fastest Rust | Reading alone |
+|---|---:|---:|---:|---:|---:|---:|---:|
+| 64 KiB | 99.5 | 102 | 102 | 0.382 | 0.277 | 0.391 | 209 |
+| 1 MiB | 64.9 | 64.1 | 60.7 | 0.376 | 0.274 | 0.385 | 74.3 |
+"""
+BANDWIDTH = "\nMemory bandwidth: one core 25.7 GB/s, all 2 cores 28.0 GB/s.\n"
 
 
 def drained(end):
@@ -56,7 +69,7 @@ def shown(*lines):
 
 
 def test_help(root):
-    for script in ("./report", "./library", "bench/run"):
+    for script in ("./report", "./library", "bench/run", "bench/picture"):
         for word in ("-h", "--help"):
             status, out, said = run(root, script, word)
             expect(f"{script} {word}", (status, out.startswith(f"usage: {script}"), said), (0, True, ""))
@@ -85,10 +98,36 @@ def test_library(root):
     expect("library, not proved", run(root, "./library", failing="staticlib c_api"), (1, "", "not proved\nlibrary: failed: rt staticlib c_api\n"))
 
 
+def test_picture(root):
+    tables = GROWTH.format("warm") + GROWTH.format("from memory")
+    (root / "whole.md").write_text(tables + BANDWIDTH)
+    status, out, said = run(root, "bench/picture", "whole.md")
+    expect("picture", (status, said), (0, ""))
+    svg = xml.etree.ElementTree.fromstring(out)
+    classes = [element.get("class") for element in svg.iter()]
+    expect("the root of the picture", svg.tag, "{http://www.w3.org/2000/svg}svg")
+    expect("the curves of the picture", (classes.count("curve"), classes.count("bandwidth")), (13, 1))
+    expect("the larger bandwidth", "memory bandwidth: 28.0 GB/s" in out, True)
+    expect("picture once more", run(root, "bench/picture", "whole.md"), (0, out, ""))
+    for text, fault in (
+        (BANDWIDTH, "no heading Growth, warm, GB/s"),
+        (GROWTH.format("warm") + BANDWIDTH, "no heading Growth, from memory, GB/s"),
+        (tables, "no line of the memory bandwidth"),
+        (tables.replace("| Rust |", "| C |") + BANDWIDTH, "no table of two sizes or more under Growth, warm, GB/s, with the columns of bench/run"),
+        (tables.replace("64.9", "fast") + BANDWIDTH, "a cell of the table Growth, warm, GB/s is not a size or a number"),
+        (tables.replace(" | 74.3", "") + BANDWIDTH, "a row of the table Growth, warm, GB/s lacks a speed"),
+    ):
+        (root / "part.md").write_text(text)
+        expect("picture of a part", run(root, "bench/picture", "part.md"), (1, "", f"picture: part.md: {fault}\n"))
+    expect("picture of a missing file", run(root, "bench/picture", "nowhere"), (1, "", "picture: cannot read nowhere\n"))
+    drawn = subprocess.run([ROOT / "bench" / "picture"], stdout=subprocess.PIPE, check=True).stdout.decode()
+    expect("docs/growth.svg is the picture of docs/BENCH.md", drawn == (ROOT / "docs" / "growth.svg").read_text(), True)
+
+
 def main():
     with tempfile.TemporaryDirectory() as folder:
         root = pathlib.Path(folder)
-        for name in ("report", "library", "crates.txt", "bench/run", "samples/otadata.bin", "tools/proving.sh"):
+        for name in ("report", "library", "crates.txt", "bench/run", "bench/picture", "samples/otadata.bin", "tools/proving.sh"):
             (root / name).parent.mkdir(exist_ok=True)
             shutil.copy(ROOT / name, root / name)
         (root / "bin").mkdir()
@@ -97,7 +136,8 @@ def main():
         test_help(root)
         test_report(root)
         test_library(root)
-    print("scripts: report, library and bench/run say what they must")
+        test_picture(root)
+    print("scripts: report, library, bench/run and bench/picture say what they must")
 
 
 if __name__ == "__main__":

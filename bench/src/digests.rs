@@ -1,6 +1,7 @@
 //! SHA-256: the library beside the plain implementation of the tests, beside an unrolled one, and beside OpenSSL.
 
-use crate::{openssl, row, unrolled};
+use crate::timing::row;
+use crate::{openssl, unrolled};
 use ota_tests::rng::Rng;
 use ota_tests::{ffi, sha256};
 use std::hint::black_box;
@@ -10,7 +11,7 @@ type Digest = [u8; sha256::DIGEST_SIZE];
 /// The lengths of the messages that are timed.
 const LENGTHS: [(&str, usize); 2] = [("64 KiB", 64 << 10), ("1.5 MiB", 3 << 19)];
 
-/// The last rows of the table. After it, in a table of its own, comes the speed of the library beside that of OpenSSL.
+/// The rows of the table. After it, in a table of its own, comes the speed of the library beside that of OpenSSL.
 pub fn rows() {
     let speeds = LENGTHS.map(|(name, length)| length as f64 / message_rows(name, &message(length)));
     println!();
@@ -26,8 +27,8 @@ fn message_rows(name: &str, message: &[u8]) -> f64 {
         }
     };
     row(&format!("SHA-256, {name} (Rust: plain)"), timed(library), timed(sha256::digest));
-    let [seconds, _] = row(&format!("SHA-256, {name} (Rust: unrolled)"), timed(library), timed(unrolled::digest));
-    seconds
+    let [times, _] = row(&format!("SHA-256, {name} (Rust: unrolled)"), timed(library), timed(unrolled::digest));
+    times.median()
 }
 
 /// Whether all three give the same digest.

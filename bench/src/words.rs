@@ -1,7 +1,7 @@
 //! A million check words: the library's two calls beside the loop over bits that the library had before, beside the same tables in
 //! ordinary Rust, and beside the model.
 
-use crate::row;
+use crate::timing::row;
 use ota_tests::ffi;
 use ota_tests::record::check_word;
 use std::hint::black_box;

@@ -39,7 +39,7 @@ parity-left a b c e = omega arith
 parity-right : (c a b : ℕ) → a % 2 ≡ b % 2 → (c + a) % 2 ≡ (c + b) % 2
 parity-right c a b e = omega arith
 
-xor-assoc : (a b c : ℕ) → bitXor (bitXor a b) c ≡ bitXor a (bitXor b c)
+pub xor-assoc : (a b c : ℕ) → bitXor (bitXor a b) c ≡ bitXor a (bitXor b c)
 xor-assoc a =
     bin-ind (λ (n : ℕ). (b c : ℕ) → bitXor (bitXor n b) c ≡ bitXor n (bitXor b c))
     (λ b c. rw (xor-zero-l b, xor-zero-l (bitXor b c)))
@@ -52,7 +52,7 @@ xor-assoc a =
     ∙ sym (odd n (bitXor b c) ∙ parity-right n (bitXor b c) (b + c) (odd b c))))
     a
 
-xor-swap : (a b c : ℕ) → bitXor (bitXor a b) c ≡ bitXor (bitXor a c) b
+pub xor-swap : (a b c : ℕ) → bitXor (bitXor a b) c ≡ bitXor (bitXor a c) b
 xor-swap a b c = xor-assoc a b c ∙ ap (bitXor a) (xor-comm b c) ∙ sym (xor-assoc a c b)
 
 xor-cancel : (a b c : ℕ) → bitXor a c ≡ bitXor b c → a ≡ b

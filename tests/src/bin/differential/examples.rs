@@ -38,6 +38,7 @@ pub fn run() -> usize {
         marks_by_version,
         images,
         segment_lengths,
+        checksums_of_every_length,
         boots_give_the_image,
         set_boots_give_the_image,
         marks_give_the_image,
@@ -474,6 +475,25 @@ fn segment_lengths() {
         let mut image = plain_image(0, 1, 256, false);
         image[28..32].copy_from_slice(&length.to_le_bytes());
         check_both(&image, expected);
+    }
+}
+
+/// A second segment of every length up to several blocks: each byte of it counts in the checksum.
+fn checksums_of_every_length() {
+    let mut rng = Rng::new(13);
+    let mut first = vec![0; 256];
+    first[..4].copy_from_slice(&image::DESCRIPTOR_WORD.to_le_bytes());
+    for length in (0..=800).step_by(4) {
+        let mut second = vec![0; length];
+        rng.fill(&mut second);
+        let mut image = build_image(0, 0, &[first.clone(), second], false);
+        let whole = image.len() as u64;
+        check_both(&image, (0, whole));
+        for place in 296..296 + length {
+            image[place] ^= 1 << (place % 8);
+            check_both(&image, (28, whole - 1));
+            image[place] ^= 1 << (place % 8);
+        }
     }
 }
 
