@@ -2,6 +2,7 @@
 ghost use mathlib.Core.Path.{_≡_};
 ghost use Prim.Native.Nat.{ℕ, _+_, _*_, _/_, _≤_, _<_, _^_};
 ghost use mathlib.Core.Bool.{false};
+ghost use mathlib.Core.List.{_++_};
 ghost use lib.ListN.{length, take, drop};
 ghost use Rattle.app_image.specs.Layout.{half, headerSize, badSegment, dataEnd, segmentsFrom, walked, xored as Layout·xored, padded as Layout·padded, wholeLength};
 use crate::Walked;
@@ -89,7 +90,7 @@ fn lanes_of(bytes: &[u8]) -> [u8; LANES]
 // The lanes after the block at `at`.
 fn with_block(lanes: [u8; LANES], bytes: &[u8], at: usize) -> [u8; LANES]
     requires { ⌜ at + 192 ≤ length (now bytes) ⌝ }
-    ensures { λ r. ⌜ ((sum : ℕ) → Layout·xored sum r ≡ Layout·xored (Layout·xored sum lanes) (take 192 (drop at (now (bytes .entry))))) ⌝ }
+    ensures { λ r. ⌜ ((sum : ℕ) → Layout·xored sum r ≡ Layout·xored sum (lanes ++ take 192 (drop at (now (bytes .entry))))) ⌝ }
 {
     let mut lanes = lanes;
     for j in 0..LANES {

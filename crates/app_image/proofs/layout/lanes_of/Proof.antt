@@ -2,18 +2,17 @@
 -- Assumes nothing.
 use Prim.Native.Nat.{_≤_, _-_, _*_, _/_}
 use mathlib.Core.Path.{_≡_, refl}
-use mathlib.Core.List.{[]}
 use native.Mathlib.Omega.{arith}
 use denote.Ref.{now}
 use lib.ListN.{length, take}
 use Rattle.app_image.specs.Layout.{xored}
-use Rattle.app_image.proofs.Xored.{Lanes, xored-zeros, block-more}
+use Rattle.app_image.proofs.Xored.{SameXor, xored-zeros, block-more}
 use borrow.Author.Needs.{needs}
 use Rattle.app_image.proofs.layout.lanes_of.Statement.{statement}
 use Rattle.app_image.proofs.layout.lanes_of.Tie as tie
 
 abbrev Inv-loop : tie.InvT-loop
-Inv-loop bytes lanes₀ k₀ k-end lanes k = (k ≤ k-end) × (k-end ≡ length bytes / 192) × Lanes [] (take (192 * k) bytes) lanes
+Inv-loop bytes lanes₀ k₀ k-end lanes k = (k ≤ k-end) × (k-end ≡ length bytes / 192) × SameXor lanes (take (192 * k) bytes)
 
 abbrev μ-loop : tie.MeasureT-loop
 μ-loop bytes lanes₀ k₀ k-end lanes k = k-end - k
@@ -41,7 +40,6 @@ loop-again c =
     (omega arith, refl, block-more bytes (at .lanes) _ 192 (at .k) (at .inv .2) (c .with-block .ensures))
 
 returns : tie.Need-returns Inv-loop μ-loop
-unfolding xored
 returns c =
     let at = c .before .loop in
     let z : at .k ≡ length (now (c .before .before .before .args .bytes)) / 192 = omega arith in
