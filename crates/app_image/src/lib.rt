@@ -1,3 +1,5 @@
+#![tactic(auto)]
+
 // The check of an app image.
 mod checks;
 mod layout;
@@ -31,25 +33,25 @@ pub const WRONG_DIGEST: u32 = 30;
 pub const WRONG_REVISION: u32 = 31;
 
 // A chip's revision: major × 100 + minor.
-#[derive(Drop)]
+#[derive(Clone, Copy)]
 pub struct Revision(pub u16);
 
 // The board that an image must fit: the chip id, and the chip's revision.
-#[derive(Drop)]
+#[derive(Clone, Copy)]
 pub struct Board {
     pub chip: ChipId,
     pub revision: Revision,
 }
 
 // Why an image is refused: the number, and the place in the image.
-#[derive(Drop)]
+#[derive(Clone, Copy)]
 pub struct Refusal {
     pub number: u32,
     pub place: usize,
 }
 
 // What is known of an accepted image: its whole length, its entry address, its secure version and its number of segments.
-#[derive(Drop)]
+#[derive(Clone, Copy)]
 pub struct Facts {
     pub length: usize,
     pub entry: u32,
@@ -58,21 +60,21 @@ pub struct Facts {
 }
 
 // The answer of the check.
-#[derive(Drop)]
+#[derive(Clone, Copy)]
 pub enum Checked {
     Refused(Refusal),
     Accepted(Facts),
 }
 
 // The outcome of some of its tests.
-#[derive(Drop)]
+#[derive(Clone, Copy)]
 pub(crate) enum Tested {
     Passed,
     Failed(Refusal),
 }
 
 // How an image ends: its length, where its segments end, the checksum of their data, and the byte in its place, or 0 past the end.
-#[derive(Drop)]
+#[derive(Clone, Copy)]
 pub(crate) struct Ending {
     length: usize,
     e: usize,
@@ -81,7 +83,7 @@ pub(crate) struct Ending {
 }
 
 // Where the segments end and the checksum of their data, or where the first bad one begins.
-#[derive(Drop)]
+#[derive(Clone, Copy)]
 pub(crate) enum Walked {
     Bad(usize),
     Ends(usize, u8),

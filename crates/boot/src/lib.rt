@@ -1,3 +1,5 @@
+#![tactic(auto)]
+
 // Boot: which app a node starts, and how the states of its records change when it starts.
 mod marks;
 mod starting;
@@ -10,7 +12,7 @@ pub use starting::boot;
 pub const NOTHING_BOOTABLE: u32 = 10;
 
 // A refusal: document 01's number, and the register as it was given.
-#[derive(Drop)]
+#[derive(Clone, Copy)]
 pub struct Refusal {
     pub number: u32,
     pub register: u32,
@@ -18,7 +20,7 @@ pub struct Refusal {
 
 // A start: the app, the sector whose record it came through, the register to burn, and the whole length and the entry address of
 // the app's image, so that a loader need not read them again.
-#[derive(Drop)]
+#[derive(Clone, Copy)]
 pub struct Start {
     pub app: App,
     pub through: Holder,
@@ -28,7 +30,7 @@ pub struct Start {
 }
 
 // The reply of boot.
-#[derive(Drop)]
+#[derive(Clone, Copy)]
 pub enum Reply {
     Refused(Refusal),
     Starts(Start),

@@ -1,3 +1,5 @@
+#![tactic(auto)]
+
 // Which app boot chooses: the settings of a node, the tests that come first, when an app passes, and the choice itself.
 mod acceptance;
 mod choosing;
@@ -14,7 +16,7 @@ pub const OTADATA_SIZE: usize = 8192;
 pub const WRONG_SETTINGS: u32 = 3;
 
 // What is set on a node: its board, the eFuse register, and which of the two protections are on.
-#[derive(Drop)]
+#[derive(Clone, Copy)]
 pub struct Settings {
     pub board: Board,
     pub efuse: u32,
@@ -23,14 +25,14 @@ pub struct Settings {
 }
 
 // Whether an app passes, with the facts of its image where it does.
-#[derive(Drop)]
+#[derive(Clone, Copy)]
 pub enum Passing {
     No,
     Yes(Facts),
 }
 
 // What boot chooses: nothing, the slot that the record of a sector names, factory, or the slot that the last search found.
-#[derive(Drop)]
+#[derive(Clone, Copy)]
 pub enum Choice {
     Nothing,
     Through(usize, Slot, Facts),

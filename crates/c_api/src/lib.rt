@@ -1,3 +1,5 @@
+#![tactic(auto)]
+
 // The C interface. `include/ota.h` declares its calls; a Rattle program can make them too.
 mod checks;
 mod digests;

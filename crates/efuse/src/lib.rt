@@ -1,13 +1,15 @@
+#![tactic(auto)]
+
 // The eFuse register of a chip: the secure version that it holds, and raising it.
 ghost use Rattle.std.specs.Prelude.{◌≡◌, min};
 ghost use Rattle.efuse.specs.Register.{width, version, raised};
 
 // A chip id, as the settings give it and an image's header.
-#[derive(Drop)]
+#[derive(Clone, Copy)]
 pub struct ChipId(pub u16);
 
 // A secure version: that of an app, or that of the register.
-#[derive(Drop)]
+#[derive(Clone, Copy)]
 pub struct SecureVersion(pub u32);
 
 // The number of bits of the register that count, the lowest ones: 32 on the ESP32, 16 on every other chip.

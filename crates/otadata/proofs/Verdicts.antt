@@ -1,29 +1,21 @@
 -- A verdict that is not good, as a `let .. else` finds it, and what holds of every verdict.
 -- Assumes nothing.
-use Prim.Native.Nat.{ℕ}
 use mathlib.Core.Path.{◌≡◌, refl, sym}
 use mathlib.Core.Bool.{Bool, true, false}
-use mathlib.Core.List.{List, [], ◌∷◌}
-use denote.Enum.Declared.{tag_of}
-use types.Run.{OneOf, hit, miss}
 use Rattle.otadata.specs.declared.Sequence.{Sequence}
 use Rattle.otadata.specs.declared.State.{State}
 use Rattle.otadata.specs.declared.Verdict.{Verdict}
 use Rattle.otadata.specs.declared.Verdict.TheVariants.{WrongSize, Blank, BadSequence, BadCheck, BadState, Good}
 use Rattle.otadata.specs.declared.Reading.{Reading}
 use Rattle.otadata.specs.Records.{if_good}
-use Rattle.otadata.specs.contracts.Verdict.{the_type}
 use Rattle.otadata.proofs.Booleans.{true_is_not_false}
 
--- the places in the enum of the five before `Good`
-abbrev places : List ℕ
-places = 0 ∷ 1 ∷ 2 ∷ 3 ∷ 4 ∷ []
-
+-- no sequence and no state make it a good one
 abbrev pub NotGood : Verdict → Type 0
-NotGood v = OneOf places (tag_of the_type v)
+NotGood v = (q : Sequence) (s : State) → v ≡ Good q s → ⊥
 
 pub wrong_size_is_not : NotGood WrongSize
-wrong_size_is_not = hit places 0 tt
+wrong_size_is_not = λ q s e. cc
 
 -- such a record has nothing of what only a good one has
 pub not_good_has : {A : Type 0} (value : Sequence → State → A) (other : A) (v : Verdict) → NotGood v → if_good value other v ≡ other
@@ -32,7 +24,7 @@ not_good_has value other Blank n = refl
 not_good_has value other BadSequence n = refl
 not_good_has value other BadCheck n = refl
 not_good_has value other BadState n = refl
-not_good_has value other (Good q s) n = absurd (miss places 5 tt n)
+not_good_has value other (Good q s) n = absurd (n q s refl)
 
 -- the same, as a `match` on the verdict of a reading finds it
 pub other_of : {A : Type 0} (value : Sequence → State → A) (other : A) (r : Reading) → NotGood r.verdict → other ≡ if_good value other r.verdict
@@ -41,10 +33,10 @@ other_of value other r n = sym (not_good_has value other r.verdict n)
 -- what holds of those and of a good one holds of every verdict
 pub by_verdict : (P : Verdict → Type 0) → ((v : Verdict) → NotGood v → P v) → ((q : Sequence) (s : State) → P (Good q s)) → (v : Verdict) → P v
 by_verdict P other good WrongSize = other WrongSize wrong_size_is_not
-by_verdict P other good Blank = other Blank (hit places 1 tt)
-by_verdict P other good BadSequence = other BadSequence (hit places 2 tt)
-by_verdict P other good BadCheck = other BadCheck (hit places 3 tt)
-by_verdict P other good BadState = other BadState (hit places 4 tt)
+by_verdict P other good Blank = other Blank (λ q s e. cc)
+by_verdict P other good BadSequence = other BadSequence (λ q s e. cc)
+by_verdict P other good BadCheck = other BadCheck (λ q s e. cc)
+by_verdict P other good BadState = other BadState (λ q s e. cc)
 by_verdict P other good (Good q s) = good q s
 
 -- what is true of a good record alone tells that the record is good

@@ -1,3 +1,5 @@
+#![tactic(auto)]
+
 // The records of otadata: how they are read and made, and their check word.
 mod many;
 mod records;
@@ -19,15 +21,15 @@ pub const NO_GOOD_RECORD: u32 = 17;
 pub const LAST_SEQUENCE: u32 = 4_294_967_294;
 
 // The sequence number of a record.
-#[derive(Drop)]
+#[derive(Clone, Copy)]
 pub struct Sequence(pub u32);
 
 // The number of an OTA slot.
-#[derive(Drop)]
+#[derive(Clone, Copy)]
 pub struct Slot(pub u32);
 
 // The state of a good record.
-#[derive(Drop)]
+#[derive(Clone, Copy)]
 pub enum State {
     New,
     Pending,
@@ -38,7 +40,7 @@ pub enum State {
 }
 
 // What a record's bytes are found to be: the first of these that applies. Only a good record has a sequence and a state.
-#[derive(Drop)]
+#[derive(Clone, Copy)]
 pub enum Verdict {
     WrongSize,
     Blank,
@@ -49,14 +51,14 @@ pub enum Verdict {
 }
 
 // A record as read. The label is zero where the record is not good.
-#[derive(Drop)]
+#[derive(Clone, Copy)]
 pub struct Reading {
     pub verdict: Verdict,
     pub label: [u8; 20],
 }
 
 // A record as made: 0 and its 32 bytes, or 17 and 32 zero bytes.
-#[derive(Drop)]
+#[derive(Clone, Copy)]
 pub struct Made {
     pub number: u32,
     pub rec: [u8; 32],

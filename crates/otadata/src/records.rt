@@ -110,6 +110,7 @@ fn is_state(word: u32) -> bool
     word == 0xFFFF_FFFF
 }
 
+#[tactic(auto, unfolding(crate::specs::Records::state_of))]
 fn state_of(word: u32) -> State
     ensures { result ≡ state_of word }
 {

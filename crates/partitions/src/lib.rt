@@ -1,3 +1,5 @@
+#![tactic(auto)]
+
 // The partition list: its test, the number of slots, and the part of the flash that belongs to an app.
 mod entries;
 mod list;
@@ -17,21 +19,21 @@ pub const MAX_WORDS: usize = 3 * (MAX_SLOTS + 1);
 pub const MAX_FLASH: usize = 16_777_216;
 
 // An app of the list.
-#[derive(Drop)]
+#[derive(Clone, Copy)]
 pub enum App {
     Factory,
     OtaSlot(Slot),
 }
 
 // What a list that keeps its rules holds.
-#[derive(Drop)]
+#[derive(Clone, Copy)]
 pub struct Listing {
     pub slots: u32,
     pub factory: bool,
 }
 
 // The answer to a list: refused with the number, or accepted.
-#[derive(Drop)]
+#[derive(Clone, Copy)]
 pub enum Checked {
     Refused(u32),
     Accepted(Listing),

@@ -1,3 +1,5 @@
+#![tactic(auto)]
+
 // Prints the report on the 8,192 bytes of otadata on standard input. Input of another length prints `refused 2`.
 use libc::{STDIN_FILENO, STDOUT_FILENO};
 

@@ -1,3 +1,5 @@
+#![tactic(auto)]
+
 // The report on two otadata sectors, as text.
 mod buffer;
 
@@ -10,7 +12,7 @@ use otadata::{Reading, State, Verdict};
 use sectors::Holder;
 
 // A text: its first `len` bytes.
-#[derive(Drop)]
+#[derive(Clone, Copy)]
 pub struct Text {
     pub bytes: [u8; 256],
     pub len: usize,

@@ -1,3 +1,5 @@
+#![tactic(auto)]
+
 // The two otadata sectors: what they read as, the active record, and how a sector is rewritten.
 mod lending;
 mod reading;
@@ -18,7 +20,7 @@ pub const WRONG_SIZE: u32 = 2;
 pub const NO_SUCH_STORE: u32 = 12;
 
 // The number of the sector that holds a record, or none.
-#[derive(Drop)]
+#[derive(Clone, Copy)]
 pub enum Holder {
     None,
     Sector(usize),

@@ -1,3 +1,5 @@
+#![tactic(auto)]
+
 // SHA-256, as FIPS 180-4 defines it: of a whole message, and of one that comes in pieces.
 mod block;
 mod functions;
@@ -10,7 +12,7 @@ pub use message::{digest, fed, finished, fresh};
 pub(crate) const BLOCK: usize = 64;
 
 // Eight words: a hash value, or the working variables a to h of the rounds.
-#[derive(Drop)]
+#[derive(Clone, Copy)]
 pub struct State {
     a: u32,
     b: u32,
@@ -23,7 +25,7 @@ pub struct State {
 }
 
 // Sixteen words of the message schedule, one after the other.
-#[derive(Drop)]
+#[derive(Clone, Copy)]
 pub(crate) struct Sixteen {
     w0: u32,
     w1: u32,
@@ -44,7 +46,7 @@ pub(crate) struct Sixteen {
 }
 
 // What a round works on: the working variables, and the sixteen words of the schedule from its own on.
-#[derive(Drop)]
+#[derive(Clone, Copy)]
 pub(crate) struct Working {
     state: State,
     words: Sixteen,
@@ -52,7 +54,7 @@ pub(crate) struct Working {
 
 // A message that comes in pieces, as far as it has come: the hash value of its whole blocks, the bytes after them in front of the buffer,
 // and the number of its bytes, modulo 2^64. Only `fresh` and `fed` make one.
-#[derive(Drop)]
+#[derive(Clone, Copy)]
 pub struct Hasher {
     state: State,
     buffer: [u8; 64],

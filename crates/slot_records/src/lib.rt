@@ -1,3 +1,5 @@
+#![tactic(auto)]
+
 // Which records name a slot, and where a new record for a slot goes.
 mod naming;
 mod placing;
@@ -8,7 +10,7 @@ pub use placing::place_new;
 
 // Where a new record goes: a sector and the record's sequence, or nowhere, since there is no such slot or that sequence would pass the
 // last one.
-#[derive(Drop)]
+#[derive(Clone, Copy)]
 pub enum Placement {
     Nowhere,
     At(usize, Sequence),

@@ -1,3 +1,5 @@
+#![tactic(auto)]
+
 // The calls besides boot: set-boot, mark-valid, mark-invalid, the state query and the next update slot.
 mod asking;
 mod marking;
@@ -26,7 +28,7 @@ pub const NO_FALLBACK: u32 = 9;
 pub const UNCONFIRMED: u32 = 11;
 
 // A refusal: document 01's number; where that is 5 the image's own refusal, else zero; and the register as it was given.
-#[derive(Drop)]
+#[derive(Clone, Copy)]
 pub struct Refusal {
     pub number: u32,
     pub image: ImageRefusal,
@@ -34,7 +36,7 @@ pub struct Refusal {
 }
 
 // A call that was done: the register to burn, and the whole length and the entry address of the image that it checked.
-#[derive(Drop)]
+#[derive(Clone, Copy)]
 pub struct Completion {
     pub register: u32,
     pub length: usize,
@@ -42,35 +44,35 @@ pub struct Completion {
 }
 
 // The reply of set-boot and of mark-valid.
-#[derive(Drop)]
+#[derive(Clone, Copy)]
 pub enum Reply {
     Refused(Refusal),
     Done(Completion),
 }
 
 // The reply of mark-invalid, which checks no image of the running app: done, with the register as it was given.
-#[derive(Drop)]
+#[derive(Clone, Copy)]
 pub enum MarkedInvalid {
     Refused(Refusal),
     Done(u32),
 }
 
 // The reply of the state query.
-#[derive(Drop)]
+#[derive(Clone, Copy)]
 pub enum Queried {
     Refused(u32),
     Found(State),
 }
 
 // The reply of the next update slot.
-#[derive(Drop)]
+#[derive(Clone, Copy)]
 pub enum NextSlot {
     Refused(u32),
     Next(Slot),
 }
 
 // The outcome of tests 5 and 6 of an app.
-#[derive(Drop)]
+#[derive(Clone, Copy)]
 pub enum Examined {
     Unfit(Refusal),
     Fit(Facts),

@@ -1,3 +1,5 @@
+#![tactic(auto)]
+
 // Runs the cases on standard input, 256 bytes each, and prints a line for each. tests/vectors/cases.py says what a case and its line hold.
 mod answers;
 mod buffers;
