@@ -4,6 +4,7 @@ use Rattle.slot_records.proofs.Named.{record_below_two}
 use native.Mathlib.Omega.{arith}
 use mathlib.Core.Path.{◌∙◌, sym}
 use Rattle.update.proofs.QueryLaws.{none_names, no_state, state_found}
+use borrow.Author.Rules.{rules}
 use Rattle.update.proofs.asking.state_naming.Goals as goal
 
 pub returns-in_default : goal.returns-in_default
@@ -21,4 +22,5 @@ pub returns-in-Good : goal.returns-in-Good
 returns-in-Good c = search state_found
 
 pub returns-in_default-verdict : goal.returns-in_default-verdict
-returns-in_default-verdict c = search no_state
+returns-in_default-verdict c =
+    no_state c.args.n c.args.slot c.args.readings (search rules) _ c.naming_record-holder.ensures _ c.in-Sector.is _ c.in_default-verdict.not-Good
