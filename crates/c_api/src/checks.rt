@@ -8,8 +8,7 @@ use app_image::{Board, Revision};
 use efuse::ChipId;
 
 // Tests a partition list, for a flash of that length: 0 with the number of slots and 1 where factory is listed, or 1.
-#[unsafe(no_mangle)]
-pub extern "C" fn ota_check_list(list: &[u32], capacity: usize, out: &mut [u32; 2]) -> u32
+pub fn ota_check_list(list: &[u32], capacity: usize, out: &mut [u32; 2]) -> u32
     ensures { answer result out.new ≡ to_c 2 (checked list.now capacity).answer }
 {
     let checked = partitions::check(list, capacity);
@@ -26,8 +25,7 @@ pub extern "C" fn ota_check_list(list: &[u32], capacity: usize, out: &mut [u32; 
 }
 
 // Checks an image, for a board: 0 with length, entry, version and segments, or 20 to 31 with the place.
-#[unsafe(no_mangle)]
-pub extern "C" fn ota_check_image(image: &[u8], chip: u16, revision: u16, out: &mut [u64; 4]) -> u32
+pub fn ota_check_image(image: &[u8], chip: u16, revision: u16, out: &mut [u64; 4]) -> u32
     ensures { answer result out.new ≡ to_c 4 (check image.now (board_of chip revision)).answer }
 {
     let board = Board {

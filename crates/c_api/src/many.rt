@@ -5,8 +5,7 @@ ghost use Rattle.otadata.specs.Words.{check_word};
 use otadata::check_words;
 
 // Puts the check word of each sequence in its place, and returns 0.
-#[unsafe(no_mangle)]
-pub extern "C" fn ota_check_words(sequences: &mut [u32]) -> u32
+pub fn ota_check_words(sequences: &mut [u32]) -> u32
     ensures { (result ≡ 0) × (sequences.new ≡ map check_word sequences.old) }
 {
     check_words(sequences);

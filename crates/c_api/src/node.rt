@@ -14,8 +14,7 @@ use sectors::Holder;
 
 // Boot: 0 with the app to start, the sector used, the register, and the length and the entry address of the app's image, or a refusal
 // with the register as given.
-#[unsafe(no_mangle)]
-pub extern "C" fn ota_boot(
+pub fn ota_boot(
     list: &[u32],
     flash: &[u8],
     otadata: &mut [u8],

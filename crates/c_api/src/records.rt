@@ -9,16 +9,14 @@ use otadata::{DONE, RECORD_SIZE, Sequence, Verdict, check_word, make};
 use sectors::{WRONG_SIZE, active_record, read_sector};
 
 // The check word of a sequence.
-#[unsafe(no_mangle)]
-pub extern "C" fn ota_check_word(sequence: u32) -> u32
+pub fn ota_check_word(sequence: u32) -> u32
     ensures { result ≡ check_word sequence }
 {
     check_word(Sequence(sequence))
 }
 
 // Makes a record: 0, or 17 and 32 zero bytes.
-#[unsafe(no_mangle)]
-pub extern "C" fn ota_make_record(
+pub fn ota_make_record(
     sequence: u32,
     label: &[u8; 20],
     state: u32,
@@ -34,8 +32,7 @@ pub extern "C" fn ota_make_record(
 
 // Reads a sector: 0 with 1, the sequence and the state word of a good record, or with 2 for blank, 3 for a bad sequence, 4 for a bad check
 // word, 5 for a bad state; 2 for a wrong size.
-#[unsafe(no_mangle)]
-pub extern "C" fn ota_read_sector(sector: &[u8], out: &mut [u32; 3]) -> u32
+pub fn ota_read_sector(sector: &[u8], out: &mut [u32; 3]) -> u32
     ensures { answer result out.new ≡ to_c 3 (read_sector sector.now).answer }
 {
     let reading = read_sector(sector);
@@ -69,12 +66,7 @@ pub extern "C" fn ota_read_sector(sector: &[u8], out: &mut [u32; 3]) -> u32
 }
 
 // Copies the active record: 32, or 0 for none.
-#[unsafe(no_mangle)]
-pub extern "C" fn ota_active<'a>(
-    first: &'a [u8],
-    second: &'a [u8],
-    rec: &mut [u8; RECORD_SIZE],
-) -> u32
+pub fn ota_active<'a>(first: &'a [u8], second: &'a [u8], rec: &mut [u8; RECORD_SIZE]) -> u32
     ensures { answer result rec.new ≡ active_view (active_part (part first.entry) (part second.entry)).content rec.old }
 {
     let active = active_record(first, second);

@@ -6,16 +6,14 @@ ghost use Rattle.c_api.specs.Interface.{chip_of};
 use efuse::{ChipId, SecureVersion, raise, version};
 
 // The version that a register holds.
-#[unsafe(no_mangle)]
-pub extern "C" fn ota_efuse_version(chip: u16, efuse: u32) -> u32
+pub fn ota_efuse_version(chip: u16, efuse: u32) -> u32
     ensures { result ≡ version (width (chip_of chip)) efuse }
 {
     version(ChipId(chip), efuse).0
 }
 
 // The register raised to a version.
-#[unsafe(no_mangle)]
-pub extern "C" fn ota_efuse_raise(chip: u16, efuse: u32, to: u32) -> u32
+pub fn ota_efuse_raise(chip: u16, efuse: u32, to: u32) -> u32
     ensures { result ≡ raised (width (chip_of chip)) efuse to }
 {
     raise(ChipId(chip), efuse, SecureVersion(to))

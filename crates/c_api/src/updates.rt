@@ -18,8 +18,7 @@ const FACTORY: u32 = 0xFFFF_FFFF;
 
 // Set-boot: 0 with the length and the entry address of the slot's image, or a refusal, with the image's own number and place where that
 // is 5.
-#[unsafe(no_mangle)]
-pub extern "C" fn ota_set_boot(
+pub fn ota_set_boot(
     list: &[u32],
     flash: &[u8],
     otadata: &mut [u8],
@@ -55,8 +54,7 @@ pub extern "C" fn ota_set_boot(
 
 // Mark-valid of the running slot: 0 with the register to burn, and the length and the entry address of its image, or a refusal with the
 // register as given, and the image's own number and place where the refusal is 5.
-#[unsafe(no_mangle)]
-pub extern "C" fn ota_mark_valid(
+pub fn ota_mark_valid(
     list: &[u32],
     flash: &[u8],
     otadata: &mut [u8],
@@ -93,8 +91,7 @@ pub extern "C" fn ota_mark_valid(
 }
 
 // Mark-invalid of the running slot: 0 or a refusal.
-#[unsafe(no_mangle)]
-pub extern "C" fn ota_mark_invalid(
+pub fn ota_mark_invalid(
     list: &[u32],
     flash: &[u8],
     otadata: &mut [u8],
@@ -121,8 +118,7 @@ pub extern "C" fn ota_mark_invalid(
 }
 
 // The state query: 0 with the state word, or a refusal.
-#[unsafe(no_mangle)]
-pub extern "C" fn ota_state_query(
+pub fn ota_state_query(
     list: &[u32],
     flash: &[u8],
     otadata: &[u8],
@@ -145,8 +141,7 @@ pub extern "C" fn ota_state_query(
 }
 
 // The next update slot: 0 with the slot, or a refusal.
-#[unsafe(no_mangle)]
-pub extern "C" fn ota_next_slot(
+pub fn ota_next_slot(
     list: &[u32],
     flash: &[u8],
     otadata: &[u8],
