@@ -6,12 +6,13 @@ mod buffers;
 mod output;
 
 use answers::answer;
-use buffers::{change, read_list};
-use libc::STDIN_FILENO;
+use buffers::{change, read_full, read_list};
 use output::print;
+use std::io::{self, Read};
 
-fn main() {
-    run(&mut [0u8; 256], &mut [0u32; 300], &mut zeros());
+// A read or a write that fails ends the program with the error.
+fn main(rt: HostRuntime) -> io::Result<()> {
+    run(rt, &mut [0u8; 256], &mut [0u32; 300], &mut zeros())
 }
 
 // The flash at first.
@@ -20,14 +21,16 @@ fn zeros() -> [u8; 2097152] {
 }
 
 // Each case changes a part of the flash, or the list, or neither, and is answered with them.
-fn run(case: &mut [u8], list: &mut [u32], flash: &mut [u8]) {
+fn run(rt: HostRuntime, case: &mut [u8], list: &mut [u32], flash: &mut [u8]) -> io::Result<()> {
+    let mut input = rt.reader();
     let mut count = 0;
     for _ in 0..100000u32 {
-        if io::read_full(STDIN_FILENO, case) != 256 {
-            return;
+        if read_full(&mut input, case)? != 256 {
+            return Ok(());
         }
         change(case, flash);
         count = read_list(count, case, list);
-        print(case, &answer(case, &list[..count], flash));
+        print(rt, case, &answer(case, &list[..count], flash))?;
     }
+    Ok(())
 }

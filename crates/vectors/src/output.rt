@@ -1,22 +1,18 @@
 // Lines of output, and the number that stands for many bytes in them.
 use crate::buffers::part;
-use libc::STDOUT_FILENO;
 use otadata::word_at;
+use std::io::{self, Write};
 
 // A line: the name of the kind of case, of eight letters, and the numbers.
-pub(crate) fn print(case: &[u8], numbers: &[u32]) {
+pub(crate) fn print(rt: HostRuntime, case: &[u8], numbers: &[u32]) -> io::Result<()> {
     let names =
         b"flash   check   slot    version raise   read    make    list    part    factory image   digest  pieces  ";
-    io::write_all(
-        STDOUT_FILENO,
-        part(names, 8 * (word_at(case, 0) as usize % 256), 8),
-    );
+    io::writer(&rt).write_all(part(names, 8 * (word_at(case, 0) as usize % 256), 8))?;
     for i in 0..numbers.len() {
         let number = numbers[i] as u64;
-        io::write_all(STDOUT_FILENO, b" ");
-        io::print_decimal(STDOUT_FILENO, number);
+        print!(rt; " {number}")?;
     }
-    io::write_all(STDOUT_FILENO, b"\n");
+    println!(rt; "")
 }
 
 // A number that changes with any byte: the bytes are the digits of a number to the base 257, taken modulo a prime.
