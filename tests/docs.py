@@ -1,7 +1,7 @@
 #!/usr/bin/env python3
 """Checks the documents: each link leads to a file of the repository, and each `name` in a link's text is that file's own or stands in it as
 a whole word, in .antt and .rt files outside of comments and imports; docs/TRACE.md links every wrong version, in must-fail/ and in wrong/,
-and few are left to the gate, which tries each from nothing."""
+and few are left to the gate."""
 import pathlib
 import re
 import sys
@@ -11,7 +11,7 @@ LINK = re.compile(r"\[([^\]]*)\]\(([^)#]+)[^)]*\)")
 # A character that a name of Rattle, Antt, C, Rust or Python can have. A word ends where none follows.
 OF_NAME = r"[\w'·-]"
 COMMENT = {".antt": "--", ".rt": "//"}
-MOST_FROM_NOTHING = 45
+MOST_IN_GATE = 45
 
 
 def said(file):
@@ -59,8 +59,8 @@ def main():
     cold = len(list(ROOT.glob("crates/*/must-fail/*.edit")))
     warm = len(list(ROOT.glob("crates/*/wrong/*.edit")))
     found = [fault for page in pages for fault in faults(page)] + list(untraced())
-    if cold > MOST_FROM_NOTHING:
-        found.append(f"{cold} edits in must-fail/, and at most {MOST_FROM_NOTHING} are wanted")
+    if cold > MOST_IN_GATE:
+        found.append(f"{cold} edits in must-fail/, and at most {MOST_IN_GATE} are wanted")
     if found:
         sys.exit("\n".join(found))
     print(f"documents: the links of {len(pages)} pages are right, and all wrong versions are traced, {cold} in must-fail/ and {warm} in wrong/")

@@ -9,7 +9,7 @@ import tempfile
 SCRIPT = pathlib.Path(__file__).resolve().parent / "docs.py"
 
 FILES = {
-    "crates/one/specs/Law.antt": "-- the law of a sum\nuse lib.ListN.{take}\n\nrecordIn : ℕ\nrecordIn = 1 -- a record\n\nreading-law : List·drop recordIn\n",
+    "crates/one/specs/Law.antt": "-- the law of a sum\nuse lib.ListN.{take}\n\nrecordIn : ℕ\nrecordIn = 1 -- a record\n\nreading-law : list-drop recordIn\n",
     "crates/one/src/lib.rt": "// Nothing to_do.\nghost use lib.Path.{sym};\nuse other::part;\npub use other::give;\n\npub fn read_at(bytes: &[u8]) {} // see top\n",
     "include/one.h": "/* of a node */\nuint32_t one_boot(uint32_t *list);\n",
     "crates/one/wrong/traced.edit": "",

@@ -11,16 +11,17 @@ import tempfile
 import xml.etree.ElementTree
 
 ROOT = pathlib.Path(__file__).resolve().parents[1]
-# Builds what the scripts use next, and fails at the command that it is told to.
+# Builds what the scripts use next, in the folder of a crate, and fails at the command and crate that it is told to.
 RT = """#!/bin/sh
-mkdir -p target/bin target/staticlib
-case "$*" in
+crate=$(basename "$PWD")
+mkdir -p out
+case "$* $crate" in
 "$FAILING") echo "not proved" && exit 1 ;;
-"check report") printf '#!/bin/sh\\nwc -c\\n' >target/bin/report && chmod +x target/bin/report ;;
-"staticlib c_api") : >target/staticlib/libc_api.a ;;
+"run report") printf '#!/bin/sh\\nwc -c\\n' >out/report && chmod +x out/report && ./out/report ;;
+"lib c_api_c") : >out/libc_api_c.a ;;
 esac
 """
-FIRST = "report: proving and building it first, half a minute to two\n"
+FIRST = "report: proving and building it first, which takes some minutes\n"
 # What bench/picture needs of the bench's output.
 GROWTH = """
 ## Growth, {}, GB/s
@@ -50,7 +51,8 @@ def drained(end):
 def run(root, *words, terminal=False, failing="nothing", fresh=True):
     """Runs a script, as in a fresh clone or not. Gives its status, its standard output, and its standard error, a pipe or a terminal."""
     if fresh:
-        shutil.rmtree(root / "target", ignore_errors=True)
+        for folder in (root / "target", *root.glob("crates/*/out")):
+            shutil.rmtree(folder, ignore_errors=True)
     env = dict(os.environ, PATH=f"{root / 'bin'}:{os.environ['PATH']}", FAILING=failing)
     ours, theirs = pty.openpty() if terminal else os.pipe()
     ended = subprocess.run(words, cwd=root, env=env, stdin=subprocess.DEVNULL, stdout=subprocess.PIPE, stderr=theirs)
@@ -80,22 +82,26 @@ def test_report(root):
     expect("report of a missing file", run(root, "./report", "nowhere"), (1, "", "report: cannot read nowhere\n"))
     expect("report", run(root, "./report"), (0, "8192\n", FIRST))
     expect("report once more", run(root, "./report", fresh=False), (0, "8192\n", ""))
+    os.utime(root / "crates/report/out/report", (0, 0))
+    expect("report with a newer source file", run(root, "./report", fresh=False), (0, "8192\n", FIRST))
+    expect("report after that", run(root, "./report", fresh=False), (0, "8192\n", ""))
     lines = [f"report: proving {k} of 4: {name}" for k, name in enumerate(("otadata", "sectors", "report_text", "report"), 1)]
     expect("report on a terminal", run(root, "./report", terminal=True), (0, "8192\n", FIRST + shown(*lines, "")))
-    fault = "not proved\nreport: failed: rt check sectors\n"
-    got = run(root, "./report", terminal=True, failing="check sectors")
+    fault = "not proved\nreport: failed: rt lib in crates/sectors\n"
+    got = run(root, "./report", terminal=True, failing="lib sectors")
     expect("report, not proved, on a terminal", got, (1, "", FIRST + shown(*lines[:2], fault)))
 
 
 def test_library(root):
     expect("library", run(root, "./library"), (0, "target/staticlib/libota.a\n", ""))
+    expect("the archive", (root / "target/staticlib/libota.a").is_file(), True)
     status, out, said = run(root, "./library", terminal=True)
     lines = said.split("\r\033[K")
     expect("library on a terminal", (status, out, lines[0], lines[-1]), (0, "target/staticlib/libota.a\n", "", ""))
-    first = re.fullmatch(r"library: proving 1-3 of \d+: (.*)", lines[1])
-    expect("the first line of library", sorted(first[1].split()) if first else lines[1], ["efuse", "otadata", "sha256"])
-    expect("the last line of library", bool(re.fullmatch(r"library: proving (\d+) of \1: c_api, with its archive", lines[-2])), True)
-    expect("library, not proved", run(root, "./library", failing="staticlib c_api"), (1, "", "not proved\nlibrary: failed: rt staticlib c_api\n"))
+    expect("the first line of library", bool(re.fullmatch(r"library: proving 1 of \d+: otadata", lines[1])), True)
+    expect("the last line of library", bool(re.fullmatch(r"library: proving (\d+) of \1: c_api_c", lines[-2])), True)
+    fault = "not proved\nlibrary: failed: rt lib in crates/c_api_c\n"
+    expect("library, not proved", run(root, "./library", failing="lib c_api_c"), (1, "", fault))
 
 
 def test_picture(root):
@@ -130,6 +136,9 @@ def main():
         for name in ("report", "library", "crates.txt", "bench/run", "bench/picture", "samples/otadata.bin", "tools/proving.sh"):
             (root / name).parent.mkdir(exist_ok=True)
             shutil.copy(ROOT / name, root / name)
+        for name in re.findall(r"(?m)^(\w+)", (root / "crates.txt").read_text()):
+            (root / "crates" / name / "src").mkdir(parents=True)
+            (root / "crates" / name / "src" / "lib.rt").write_text("")
         (root / "bin").mkdir()
         (root / "bin" / "rt").write_text(RT)
         (root / "bin" / "rt").chmod(0o755)

@@ -9,76 +9,137 @@ import tempfile
 
 SCRIPT = pathlib.Path(__file__).resolve().parent / "wrong"
 
-LOWER = """ghost use mathlib.Core.Path.{_≡_};
+LOWER = """#![tactic(auto)]
+
+// Gives back what it takes.
+ghost use Rattle.std.specs.Prelude.{◌≡◌};
 
 pub fn echo(x: usize) -> usize
-    ensures { λ r. ⌜ r ≡ x ⌝ }
+    ensures { result ≡ x }
 {
     x
 }
 """
-UPPER = """ghost use mathlib.Core.Path.{_≡_};
+UPPER = """#![tactic(auto)]
+
+// Small functions, each with its contract.
+ghost use Rattle.std.specs.Prelude.{◌≡◌};
+ghost use Rattle.upper.specs.Calendar.{Relayed, length_of};
 
 pub fn relay(x: usize) -> usize
-    ensures { λ r. ⌜ r ≡ x ⌝ }
+    ensures { Relayed x result }
 {
     lower::echo(x)
 }
 
 // The number of days.
 pub fn seven() -> usize
-    ensures { λ r. ⌜ r ≡ 7 ⌝ }
+    ensures { result ≡ 7 }
 {
     7
 }
+
+// The days of a month, in a leap year or not.
+pub fn days(leap: u32) -> usize
+    ensures { result ≡ length_of leap }
+{
+    if leap == 0 { 28 } else { 29 }
+}
 """
-RELAY = """use borrow.Author.Needs.{needs}
-use Rattle·upper·proofs.proofs.relay.Statement.{statement}
-use Rattle·upper·proofs.proofs.relay.Tie as tie
+CALENDAR = """-- What the contracts say.
+use Rattle.std.specs.Prelude.{ℕ, ◌≡◌, cond, eqb}
 
-echo-requires : tie.Need-echo-requires
-echo-requires c = search needs
+unfoldable pub week : ℕ
+week = 7
 
-returns : tie.Need-returns
-returns c = c .echo .ensures
+-- what is relayed is what was given
+pub record Relayed (x r : ℕ) : Type 0 where
+  pub same : r ≡ x
 
-pub relay-spec : {M : Type 1} → statement M
-relay-spec = tie.close (tie.spec echo-requires returns)
+-- the days of February, in a leap year where leap is not 0
+unfoldable pub length_of : ℕ → ℕ
+length_of leap = cond (eqb leap 0) 28 29
 """
-BROKEN = """ghost use mathlib.Core.Path.{_≡_};
+LENGTHS = """-- The two values of length_of.
+use Prim.Native.Nat.{ℕ}
+use mathlib.Core.Path.{◌≡◌}
+use borrow.Author.Tests.{eq-eqb, ne_eqb}
+use Rattle.upper.specs.Calendar.{length_of}
+
+pub in_no_leap_year : (leap : ℕ) → leap ≡ 0 → 28 ≡ length_of leap
+unfolding length_of
+in_no_leap_year leap e = simp (eq-eqb _ _ e)
+
+pub in_a_leap_year : (leap : ℕ) → (leap ≡ 0 → ⊥) → 29 ≡ length_of leap
+unfolding length_of
+in_a_leap_year leap n = simp (ne_eqb _ _ n)
+"""
+RELAY = """use Rattle.upper.proofs.relay.Goals as goal
+
+pub returns : goal.returns
+returns c = record { same = c.echo.ensures }
+"""
+DAYS = """use Rattle.upper.proofs.Lengths.{in_no_leap_year, in_a_leap_year}
+use Rattle.upper.proofs.days.Goals as goal
+
+pub returns-then-leap-eq0 : goal.returns-then-leap-eq0
+returns-then-leap-eq0 c = search in_no_leap_year
+
+pub returns-else-leap-eq0 : goal.returns-else-leap-eq0
+returns-else-leap-eq0 c = search in_a_leap_year
+"""
+BROKEN = """#![tactic(auto)]
+
+// Its function is not proved.
+ghost use Rattle.std.specs.Prelude.{◌≡◌};
 
 pub fn nine() -> usize
-    ensures { λ r. ⌜ r ≡ 9 ⌝ }
+    ensures { result ≡ 9 }
 {
     8
 }
+"""
+ABOVE = """#![tactic(auto)]
+
+// Nothing.
+pub fn nothing() {}
 """
 FILES = {
     "crates.txt": "# made up\nlower:\nupper: lower\nbroken:\nabove: broken\n",
     "crates/lower/src/lib.rt": LOWER,
     "crates/upper/src/lib.rt": UPPER,
-    "crates/upper/proofs/relay/Proof.antt": RELAY,
-    "crates/upper/specs/Lib.antt": "pub mod Days\n",
-    "crates/upper/specs/Days.antt": "use Prim.Native.Nat.{ℕ}\n\nunfoldable pub week : ℕ\nweek = 7\n",
+    "crates/upper/proofs/relay/Answers.antt": RELAY,
+    "crates/upper/proofs/days/Answers.antt": DAYS,
+    "crates/upper/proofs/Lib.antt": "pub mod Lengths\n",
+    "crates/upper/proofs/Lengths.antt": LENGTHS,
+    "crates/upper/specs/Lib.antt": "pub mod Calendar\n",
+    "crates/upper/specs/Calendar.antt": CALENDAR,
     "crates/broken/src/lib.rt": BROKEN,
-    "crates/above/src/lib.rt": "pub fn nothing() {}\n",
+    "crates/above/src/lib.rt": ABOVE,
 }
 # Each edit, and words of the line that must be printed of it.
 EDITS = {
-    "upper/eight": ("file: src/lib.rt\nold:     7\nnew:     8\n", "refused ("),
-    "upper/two_pairs": ("# both\nfile: src/lib.rt\nold: days\nnew: nights\nold:     7\nnew:     6\n", "refused ("),
-    "upper/absent": ("file: src/lib.rt\nold: sixteen\nnew: 16\n", "NOT REFUSED: its 'old:' text stands 0 times in src/lib.rt"),
-    "upper/twice": ("file: src/lib.rt\nold: ensures\nnew: requires\n", "NOT REFUSED: its 'old:' text stands 2 times in src/lib.rt"),
-    "upper/outside": ("file: src/../../lower/src/lib.rt\nold: echo\nnew: say\n", "NOT REFUSED: no such file in"),
-    "upper/empty": ("file: src/lib.rt\nold: days\n", "NOT REFUSED: it has no pair"),
-    "upper/another_type": ("file: src/lib.rt\nold:     7\nnew:     true\n", "NOT REFUSED: it does not reach the prover (status 1)"),
-    "upper/same": ("file: src/lib.rt\nold: days\nnew: nights\n", "NOT REFUSED: the crate is still proved with this edit"),
-    "upper/no_call": ("file: src/lib.rt\nold: lower::echo(x)\nnew: x\n", "NOT REFUSED: no fact fails, the proof only no longer fits"),
-    "upper/no_name": ("file: proofs/relay/Proof.antt\nold: search needs\nnew: search wants\n", "NOT REFUSED: no fact fails, the proof only no longer fits"),
-    "upper/no_field": ("file: proofs/relay/Proof.antt\nold: c .echo\nnew: c .shout\n", "NOT REFUSED: no fact fails, the proof only no longer fits"),
-    "upper/unread": ("file: proofs/relay/Proof.antt\nold: search needs\nnew: (search needs\n", "NOT REFUSED: no fact fails, the prover cannot read"),
-    "upper/unclosed": ("file: specs/Days.antt\nold: week = 7\nnew: week = (7\n", "NOT REFUSED: no fact fails, the edited definition is not"),
-    "upper/ill_typed": ("file: specs/Days.antt\nold: week = 7\nnew: week = ℕ\n", "NOT REFUSED: no fact fails, the edited definition is not"),
+    "upper/eight": ("file: src/lib.rt\nold:     7\nnew:     8\n", "refused (first at crates/upper/src/lib.rt:"),
+    "upper/two_pairs": ("# both\nfile: src/lib.rt\nold: number of days\nnew: nights\nold:     7\nnew:     6\n", "refused (first at crates/upper/src/lib.rt:"),
+    "upper/thirty": ("file: src/lib.rt\nold: 29\nnew: 30\n", "refused (first at crates/upper/proofs/days/Answers.antt:"),
+    "upper/definition": ("file: specs/Calendar.antt\nold: 28 29\nnew: 28 30\n", "refused (first at crates/upper/proofs/Lengths.antt:"),
+    "upper/absent": ("file: src/lib.rt\nold: sixteen\nnew: 16\n", "NOT REFUSED: BAD EDIT: an 'old:' text is in crates/upper/src/lib.rt 0 times"),
+    "upper/twice": ("file: src/lib.rt\nold: ensures\nnew: requires\n", "NOT REFUSED: BAD EDIT: an 'old:' text is in crates/upper/src/lib.rt 3 times"),
+    "upper/outside": ("file: src/../../lower/src/lib.rt\nold: echo\nnew: say\n", "NOT REFUSED: BAD EDIT: a 'file:' line names no file below"),
+    "upper/empty": ("file: src/lib.rt\nold: days\n", "NOT REFUSED: BAD EDIT: it has no 'old:' and 'new:' pair"),
+    "upper/another_type": ("file: src/lib.rt\nold:     7\nnew:     true\n", "NOT REFUSED: BAD EDIT: it did not reach the prover; "),
+    "upper/same": ("file: src/lib.rt\nold: number of days\nnew: nights\n", "NOT REFUSED: the crate is still proved with this edit"),
+    "upper/no_call": ("file: src/lib.rt\nold: lower::echo(x)\nnew: x\n", "NOT REFUSED: no fact fails, only because a proof file names what the edit took away"),
+    "upper/left_over": (
+        "file: src/lib.rt\nold: if leap == 0 { 28 } else { 29 }\nnew: if leap != 0 { 29 } else { 28 }\n",
+        "NOT REFUSED: no fact fails, the proof only no longer fits: crates/upper/proofs/days/Answers.antt:",
+    ),
+    "upper/no_name": ("file: proofs/days/Answers.antt\nold: search in_no_leap_year\nnew: search nowhere\n", "NOT REFUSED: BAD EDIT: the prover cannot read the edited text"),
+    "upper/no_path": ("file: proofs/relay/Answers.antt\nold: c.echo\nnew: d.echo\n", "NOT REFUSED: no fact fails, the proof only no longer fits"),
+    "upper/no_field": ("file: proofs/relay/Answers.antt\nold: c.echo\nnew: c.shout\n", "NOT REFUSED: BAD EDIT: the prover cannot read the edited text"),
+    "upper/unread": ("file: proofs/relay/Answers.antt\nold: c.echo\nnew: (c.echo\n", "NOT REFUSED: BAD EDIT: the prover cannot read the edited text"),
+    "upper/unclosed": ("file: specs/Calendar.antt\nold: week = 7\nnew: week = (7\n", "NOT REFUSED: BAD EDIT: the prover cannot read the edited text"),
+    "upper/ill_typed": ("file: specs/Calendar.antt\nold: week = 7\nnew: week = ℕ\n", "NOT REFUSED: no fact fails, the edited definition is not"),
     "broken/seven": ("file: src/lib.rt\nold:     8\nnew:     7\n", "NOT REFUSED: the crate is not proved without the edit either"),
     "above/something": ("file: src/lib.rt\nold: nothing\nnew: something\n", "NOT REFUSED: a crate that it uses is not proved"),
 }
@@ -130,10 +191,9 @@ def main():
     with tempfile.TemporaryDirectory() as folder:
         root = pathlib.Path(folder)
         write(root)
-        subprocess.run(["rt", "check", "lower"], cwd=root, check=True, stdout=subprocess.DEVNULL, stderr=subprocess.DEVNULL)
+        subprocess.run(["rt", "check"], cwd=root / "crates" / "lower", check=True, stdout=subprocess.DEVNULL, stderr=subprocess.DEVNULL)
         before = state(root)
-        check(root, ["upper", "broken"], 2, 1)
-        check(root, ["above"], 0, 1)
+        check(root, ["upper", "broken", "above"], 4, 1)
         expect("one edit", tried(root, "upper/eight")[:2], (0, "1 wrong versions refused, 0 not"))
         expect("an unknown crate", tried(root, "middle")[:2], (2, ""))
         expect("the work tree is as it was", state(root) == before, True)

@@ -1,3 +1,4 @@
+# shellcheck shell=sh
 # For scripts that prove crates before they can do their work; they read this file at the top of the repository, with `me` as their name.
 
 # Shows a line on a terminal in place of the one before; elsewhere nothing. With no words it clears the line.
@@ -12,59 +13,57 @@ quietly() {
         show
         cat "$log" >&2
         rm -f "$log"
-        echo "$me: failed: $*" >&2
+        echo "$me: failed: $*${crate:+ in crates/$crate}" >&2
         exit 1
     }
     rm -f "$log"
 }
 
-# Prints the named crates and those that they use, a line for each level: the crates of a line use only those of the lines above.
-levels() {
-    awk -v names="$*" '
-        function level(name, parts, i, n) {
-            if (name in at) return at[name]
-            at[name] = 1
+# The crate that is being proved.
+crate=
+
+# Prints the named crate and those that it uses, lowest first.
+with_used() {
+    awk -v wanted="$1" '
+        function visit(name, parts, i, n) {
+            if (name in seen) return
+            seen[name] = 1
             n = split(uses[name], parts, " ")
             for (i = 1; i <= n; i++)
-                if (parts[i] in uses && level(parts[i]) >= at[name]) at[name] = at[parts[i]] + 1
-            return at[name]
+                if (parts[i] in uses) visit(parts[i])
+            print name
         }
         { sub(/#.*/, "") }
-        split($0, half, ":") == 2 { gsub(/ /, "", half[1]); uses[half[1]] = half[2] }
-        END {
-            n = split(names, wanted, " ")
-            for (i = 1; i <= n; i++) level(wanted[i])
-            for (name in at) {
-                line[at[name]] = line[at[name]] " " name
-                if (at[name] > last) last = at[name]
-            }
-            for (i = 1; i <= last; i++) print line[i]
-        }' crates.txt
+        split($0, half, ":") == 2 { split(half[1], word, " "); uses[word[1]] = half[2] }
+        END { visit(wanted) }' crates.txt
 }
 
-# The proofs that have begun and all that are to be done. A script with proofs of its own after `prove` counts them in `whole` before.
-begun=0 whole=0
-
-# Shows that the named proofs begin, k of n.
-begin() {
-    first=$((begun + 1)) begun=$((begun + $#))
-    if [ "$#" -eq 1 ]; then show "proving $begun of $whole: $*"; else show "proving $first-$begun of $whole: $*"; fi
+# Proves and builds the named crate and those that it uses, shows how far it is, and leaves what is built in the out/ of each.
+# The second word is `lib` for a library, `run` for a program, which is run for that, on the standard input.
+build() {
+    crates=$(with_used "$1")
+    whole=$(echo "$crates" | wc -w)
+    begun=0
+    for crate in $crates; do
+        begun=$((begun + 1))
+        show "proving $begun of $whole: $crate"
+        cd "crates/$crate" || exit
+        if [ "$crate" = "$1" ]; then quietly rt "$2"; else quietly rt lib </dev/null; fi
+        cd ../..
+    done
+    crate=
+    show
 }
 
-# Proves the named crates and those that they use. On a terminal it shows which.
-prove() {
-    if [ ! -t 2 ]; then
-        quietly rt check "$@"
-        return
-    fi
-    plan=$(levels "$@")
-    whole=$((whole + $(echo "$plan" | wc -w)))
-    while read -r crates; do
-        # shellcheck disable=SC2086
-        begin $crates
-        # shellcheck disable=SC2086
-        quietly rt check $crates </dev/null
-    done <<PLAN
-$plan
-PLAN
+# Whether the program of the named crate is built, and no source file is newer.
+built() {
+    [ -x "crates/$1/out/$1" ] && [ -z "$(find crates/*/src -name '*.rt' -newer "crates/$1/out/$1")" ]
+}
+
+# Builds the program of the named crate where that has not been done. It is run for that, on the standard input.
+build_program() {
+    if built "$1"; then return; fi
+    build "$1" run
+    # where rt finds the program up to date, it leaves it as old as it is
+    touch "crates/$1/out/$1"
 }
