@@ -1,7 +1,9 @@
 #!/usr/bin/env python3
 """Tests the script tests/wrong: in a made-up repository it must tell a refused wrong version from each kind that is not refused."""
 import hashlib
+import os
 import pathlib
+import re
 import shutil
 import subprocess
 import sys
@@ -119,26 +121,30 @@ FILES = {
 }
 # Each edit, and words of the line that must be printed of it.
 EDITS = {
-    "upper/eight": ("file: src/lib.rt\nold:     7\nnew:     8\n", "refused (first at crates/upper/src/lib.rt:"),
-    "upper/two_pairs": ("# both\nfile: src/lib.rt\nold: number of days\nnew: nights\nold:     7\nnew:     6\n", "refused (first at crates/upper/src/lib.rt:"),
-    "upper/thirty": ("file: src/lib.rt\nold: 29\nnew: 30\n", "refused (first at crates/upper/proofs/days/Answers.antt:"),
-    "upper/definition": ("file: specs/Calendar.antt\nold: 28 29\nnew: 28 30\n", "refused (first at crates/upper/proofs/Lengths.antt:"),
-    "upper/absent": ("file: src/lib.rt\nold: sixteen\nnew: 16\n", "NOT REFUSED: BAD EDIT: an 'old:' text is in crates/upper/src/lib.rt 0 times"),
-    "upper/twice": ("file: src/lib.rt\nold: ensures\nnew: requires\n", "NOT REFUSED: BAD EDIT: an 'old:' text is in crates/upper/src/lib.rt 3 times"),
-    "upper/outside": ("file: src/../../lower/src/lib.rt\nold: echo\nnew: say\n", "NOT REFUSED: BAD EDIT: a 'file:' line names no file below"),
-    "upper/empty": ("file: src/lib.rt\nold: days\n", "NOT REFUSED: BAD EDIT: it has no 'old:' and 'new:' pair"),
-    "upper/another_type": ("file: src/lib.rt\nold:     7\nnew:     true\n", "NOT REFUSED: BAD EDIT: it did not reach the prover; "),
+    "upper/eight": ("file: src/lib.rt\nold:     7\nnew:     8\n", "first at crates/upper/src/lib.rt:"),
+    "upper/two_pairs": ("# both\nfile: src/lib.rt\nold: number of days\nnew: nights\nold:     7\nnew:     6\n", "first at crates/upper/src/lib.rt:"),
+    "upper/thirty": ("file: src/lib.rt\nold: 29\nnew: 30\n", "first at crates/upper/proofs/days/Answers.antt:"),
+    "upper/definition": ("file: specs/Calendar.antt\nold: 28 29\nnew: 28 30\n", "first at crates/upper/proofs/Lengths.antt:"),
+    "upper/absent": ("file: src/lib.rt\nold: sixteen\nnew: 16\n", "NOT REFUSED: its 'old:' text stands 0 times in src/lib.rt"),
+    "upper/twice": ("file: src/lib.rt\nold: ensures\nnew: requires\n", "NOT REFUSED: its 'old:' text stands 3 times in src/lib.rt"),
+    "upper/outside": ("file: src/../../lower/src/lib.rt\nold: echo\nnew: say\n", "NOT REFUSED: no such file in"),
+    "upper/empty": ("file: src/lib.rt\nold: days\n", "NOT REFUSED: it has no pair"),
+    "upper/another_type": ("file: src/lib.rt\nold:     7\nnew:     true\n", "NOT REFUSED: it does not reach the prover (status 1)"),
     "upper/same": ("file: src/lib.rt\nold: number of days\nnew: nights\n", "NOT REFUSED: the crate is still proved with this edit"),
-    "upper/no_call": ("file: src/lib.rt\nold: lower::echo(x)\nnew: x\n", "NOT REFUSED: no fact fails, only because a proof file names what the edit took away"),
+    "upper/no_call": ("file: src/lib.rt\nold: lower::echo(x)\nnew: x\n", "NOT REFUSED: no fact fails, the proof only no longer fits"),
     "upper/left_over": (
         "file: src/lib.rt\nold: if leap == 0 { 28 } else { 29 }\nnew: if leap != 0 { 29 } else { 28 }\n",
         "NOT REFUSED: no fact fails, the proof only no longer fits: crates/upper/proofs/days/Answers.antt:",
     ),
-    "upper/no_name": ("file: proofs/days/Answers.antt\nold: search in_no_leap_year\nnew: search nowhere\n", "NOT REFUSED: BAD EDIT: the prover cannot read the edited text"),
+    "upper/left_over_and_wrong": (
+        "file: src/lib.rt\nold: if leap == 0 { 28 } else { 29 }\nnew: if leap != 0 { 28 } else { 29 }\n",
+        "NOT REFUSED: no fact fails, the proof only no longer fits: crates/upper/proofs/days/Answers.antt:",
+    ),
+    "upper/no_name": ("file: proofs/days/Answers.antt\nold: search in_no_leap_year\nnew: search nowhere\n", "NOT REFUSED: no fact fails, the proof only no longer fits"),
     "upper/no_path": ("file: proofs/relay/Answers.antt\nold: c.echo\nnew: d.echo\n", "NOT REFUSED: no fact fails, the proof only no longer fits"),
-    "upper/no_field": ("file: proofs/relay/Answers.antt\nold: c.echo\nnew: c.shout\n", "NOT REFUSED: BAD EDIT: the prover cannot read the edited text"),
-    "upper/unread": ("file: proofs/relay/Answers.antt\nold: c.echo\nnew: (c.echo\n", "NOT REFUSED: BAD EDIT: the prover cannot read the edited text"),
-    "upper/unclosed": ("file: specs/Calendar.antt\nold: week = 7\nnew: week = (7\n", "NOT REFUSED: BAD EDIT: the prover cannot read the edited text"),
+    "upper/no_field": ("file: proofs/relay/Answers.antt\nold: c.echo\nnew: c.shout\n", "NOT REFUSED: no fact fails, the proof only no longer fits"),
+    "upper/unread": ("file: proofs/relay/Answers.antt\nold: c.echo\nnew: (c.echo\n", "NOT REFUSED: no fact fails, the prover cannot read"),
+    "upper/unclosed": ("file: specs/Calendar.antt\nold: week = 7\nnew: week = (7\n", "NOT REFUSED: no fact fails, the edited definition is not"),
     "upper/ill_typed": ("file: specs/Calendar.antt\nold: week = 7\nnew: week = ℕ\n", "NOT REFUSED: no fact fails, the edited definition is not"),
     "broken/seven": ("file: src/lib.rt\nold:     8\nnew:     7\n", "NOT REFUSED: the crate is not proved without the edit either"),
     "above/something": ("file: src/lib.rt\nold: nothing\nnew: something\n", "NOT REFUSED: a crate that it uses is not proved"),
@@ -165,7 +171,8 @@ def state(root):
 
 def tried(root, *words):
     """Runs the script. Gives its status, its last line, and the line of each edit."""
-    ended = subprocess.run([root / "tests" / "wrong", *words], stdout=subprocess.PIPE, stderr=subprocess.PIPE)
+    env = dict(os.environ, XDG_CACHE_HOME=str(root.parent / "cache"))
+    ended = subprocess.run([root / "tests" / "wrong", *words], env=env, stdout=subprocess.PIPE, stderr=subprocess.PIPE)
     lines = ended.stdout.decode().splitlines()
     named = {line.split(": ")[0].removeprefix("wrong "): line for line in lines if line.startswith("wrong ")}
     return ended.returncode, "".join(lines[-1:]), named
@@ -189,12 +196,15 @@ def check(root, crates, refused, status):
 
 def main():
     with tempfile.TemporaryDirectory() as folder:
-        root = pathlib.Path(folder)
+        root = pathlib.Path(folder) / "repository"
         write(root)
         subprocess.run(["rt", "check"], cwd=root / "crates" / "lower", check=True, stdout=subprocess.DEVNULL, stderr=subprocess.DEVNULL)
         before = state(root)
         check(root, ["upper", "broken", "above"], 4, 1)
-        expect("one edit", tried(root, "upper/eight")[:2], (0, "1 wrong versions refused, 0 not"))
+        for words, how in (([], "kept"), (["--anew"], r"\d+ s")):
+            status, last, named = tried(root, *words, "upper/eight")
+            expect("one edit", (status, last), (0, "1 wrong versions refused, 0 not"))
+            expect("how it was judged", bool(re.search(rf": refused \({how}; first at ", named["upper/eight"])), True)
         expect("an unknown crate", tried(root, "middle")[:2], (2, ""))
         expect("the work tree is as it was", state(root) == before, True)
     print(f"tests/wrong: tells {len(EDITS)} made-up edits apart")

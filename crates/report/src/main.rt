@@ -1,40 +1,21 @@
 #![tactic(auto)]
 
-// Prints the report on the 8,192 bytes of otadata on standard input. Input of another length prints `refused 2`. A read or a write that fails
-// ends the program with the error.
-ghost use Rattle.std.specs.Prelude.{◌≤◌, IfOk, length};
-
+// Prints the report on the 8,192 bytes of otadata on standard input. Input of another length prints `refused 2`. A read that fails counts as
+// the end of the input; a write that fails ends the program with the error.
 use std::io::{self, Read, Write};
 
 fn main(rt: HostRuntime) -> io::Result<()> {
     let mut input = rt.reader();
     let mut buffer = [0u8; 8192];
     let mut beyond = [0u8; 1];
-    let count = read_full(&mut input, &mut buffer)?;
-    let rest = read_full(&mut input, &mut beyond)?;
-    if count != 8192 {
+    if input.read_exact(&mut buffer).is_err() {
         return print_refusal(rt);
     }
-    if rest != 0 {
+    if input.read_exact(&mut beyond).is_ok() {
         return print_refusal(rt);
     }
     let otadata = &buffer[..];
     print_report(rt, &otadata[..4096], &otadata[4096..])
-}
-
-// Reads until the buffer is full or the input ends, and gives the number of bytes read.
-fn read_full<R: Read>(input: &mut R, buffer: &mut [u8]) -> io::Result<usize>
-    ensures { IfOk result (λ n. n ≤ length buffer.new) }
-{
-    let mut count = 0;
-    while count < buffer.len() {
-        let more = input.read(&mut buffer[count..])?;
-        if more == 0 {
-            break;
-        }
-        count += more;
-    }
-    Ok(count)
 }
 
 fn print_refusal(rt: HostRuntime) -> io::Result<()> {

@@ -1,24 +1,7 @@
 // Parts of buffers, and what a case changes in them. What is past the end of a slice is left out.
-ghost use Rattle.std.specs.Prelude.{◌≡◌, ◌≤◌, IfOk, length};
+ghost use Rattle.std.specs.Prelude.{◌≤◌, length};
 
 use otadata::word_at;
-use std::io::{self, Read};
-
-// Reads until the buffer is full or the input ends, and gives the number of bytes read.
-pub(crate) fn read_full<R: Read>(input: &mut R, buffer: &mut [u8]) -> io::Result<usize>
-    ensures within { IfOk result (λ n. n ≤ length buffer.new) }
-    ensures length { length buffer.new ≡ length buffer.old }
-{
-    let mut count = 0;
-    while count < buffer.len() {
-        let more = input.read(&mut buffer[count..])?;
-        if more == 0 {
-            break;
-        }
-        count += more;
-    }
-    Ok(count)
-}
 
 // Fills a part of the flash, where the case says so.
 pub(crate) fn change(case: &[u8], flash: &mut [u8]) {

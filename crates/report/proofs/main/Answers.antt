@@ -6,4 +6,4 @@ use lib.Seq.{length-take-le}
 use Rattle.report.proofs.main.Goals as goal
 
 pub slice_bounds-print_report-end : goal.slice_bounds-print_report-end
-slice_bounds-print_report-end c = sym (length-take-le 4096 c.read_full.new.buffer (omega (arith, c.read_full.auto.buffer)))
+slice_bounds-print_report-end c = sym (length-take-le 4096 c.read_exact.new.buf (omega (arith, c.read_exact.auto.buf)))

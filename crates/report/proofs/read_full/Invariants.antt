@@ -1,9 +1,0 @@
--- The loop of `report::read_full`: what is counted is within the buffer, and each turn counts more.
-use Rattle.std.proofs.Common.{◌≤◌, ◌-◌, length}
-use Rattle.report.proofs.read_full.Given as goal
-
-abbrev pub invariant-loop-count : goal.invariant-loop-count
-invariant-loop-count g l = l.count ≤ length l.buffer
-
-abbrev pub decreases-loop-count : goal.decreases-loop-count
-decreases-loop-count g l = length l.buffer - l.count
