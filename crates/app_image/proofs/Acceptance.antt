@@ -1,125 +1,164 @@
 -- What an accepted image is.
 -- Assumes nothing.
-use Prim.Native.Nat.{ℕ, ◌≤◌}
-use mathlib.Core.Path.{◌≡◌, refl, sym, subst, ◌∙◌}
-use mathlib.Core.Bool.{Bool, true, false, not, ◌&&◌, ◌||◌}
-use mathlib.Core.List.{List}
-use native.Mathlib.Omega.{arith}
-use lib.Dec.{eqb, leb, ltb}
-use lib.ListN.{length}
-use borrow.Author.Tests.{eq-eqb, eqb-true, leb-true, ltb-false, not-false}
-use Rattle.otadata.proofs.Booleans.{both}
+use Rattle.std.proofs.Common.{◌≡◌, ℕ, ◌≤◌, Bool, true, false, not, ◌&&◌, ◌||◌, ◌==◌, nat_le, nat_lt, List, length, slice_index, Result, Ok, Err, refl, sym, ap, ◌∙◌, arith, if◌then◌else◌}
+use Rattle.std.specs.Cmp.Lexicographic.{same_text}
 use Rattle.sha256.specs.Sha256.{digest}
+use Rattle.std.proofs.lemmas.Bool.Decides.{nat_tests}
+use Rattle.std.proofs.lemmas.List.{get_or-take}
 use Rattle.app_image.specs.declared.Board.{Board}
-use Rattle.app_image.specs.declared.Ending.{Ending}
-use Rattle.app_image.specs.declared.Tested.{Tested}
-use Rattle.app_image.specs.declared.Tested.TheVariants.{Passed, Failed}
 use Rattle.app_image.specs.declared.Facts.{Facts}
-use Rattle.otadata.specs.Answers.{Answered}
-use Rattle.app_image.specs.declared.Checked.{Checked}
-use Rattle.app_image.specs.declared.Checked.TheVariants.{Accepted}
-use Rattle.app_image.specs.Layout.{magic, segment_count, chip_id, min_revision, max_revision, digest_flag, segments, any_bad, stop, whole_length, before_digest, appended_digest}
-use Rattle.app_image.specs.Check.{refuse_if, then, count_right, unlimited, revision_fits, described, length_test, header_tests, segment_test, ending_of, end_tests, same, digest_test}
-use Rattle.app_image.specs.Check.{facts_of, from_segments, from_end, check, Fits, AcceptedFits, AcceptedDigest}
-use Rattle.app_image.proofs.Comparison.{same_equal}
+use Rattle.app_image.specs.declared.layout.Ending.{Ending}
+use Rattle.app_image.specs.declared.refusal.ImageRefusal.{ImageRefusal}
+use Rattle.app_image.specs.Layout.{◌>>=◌, ◌>>◌, header_of, head_of, segment_count, digest_flag, chip_id, min_revision, max_revision, ending_of, checksum_place, whole_length, before_digest, appended_digest}
+use Rattle.app_image.specs.Check.{refuse_if, is_count, is_unlimited, revision_fits, header_test, descriptor_test, length_test, checksum_test, version_test, digest_compared, digest_test, facts_of, check}
+use Rattle.app_image.specs.Laws.{Fits, AcceptedFits, AcceptedDigest, AcceptedWithin}
+use Rattle.app_image.proofs.Head.{front_two}
 
--- the tests before an acceptance passed
-then_accepts : (t : Tested) (rest : Answered Checked) (facts : Facts) → (then t rest).reply ≡ Accepted facts → (t ≡ Passed) × (rest.reply ≡ Accepted facts)
-then_accepts Passed rest facts e = (refl, e)
-then_accepts (Failed refusal) rest facts e = absurd (let z : ◌≡◌ {A = ℕ} 0 1 = cc in omega arith)
+-- ---- what passed, where the tests after it gave a value
 
--- and so did each of them
-passed : (wrong : Bool) (number place : ℕ) (rest : Tested) → refuse_if wrong number place rest ≡ Passed → (wrong ≡ false) × (rest ≡ Passed)
-passed false number place rest e = (refl, e)
-passed true number place rest e = absurd (let z : ◌≡◌ {A = ℕ} 0 1 = cc in omega arith)
+pub guard_ok : (wrong : Bool) (e : ImageRefusal) → refuse_if wrong e ≡ Ok tt → wrong ≡ false
+guard_ok false e h = refl
+guard_ok true e h = cc
 
--- a header that passes: its segment count is right, and it fits the board
-pub record RightHeader (s : List ℕ) (board : Board) : Type 0 where
-  pub counted : count_right (segment_count s) ≡ true
-  pub fits : Fits s board
+next_ok : {A : Type 0} (r : Result (Unit {0}) ImageRefusal) (next : Result A ImageRefusal) (y : A) → (r >> next) ≡ Ok y → (r ≡ Ok tt) × (next ≡ Ok y)
+next_ok (Ok x) next y e = (refl, e)
+next_ok (Err r) next y e = (cc, cc)
 
-right_header : (s : List ℕ) (board : Board) → header_tests s board ≡ Passed → RightHeader s board
-unfolding header_tests
-right_header s board e =
-    let of-magic = passed (not (eqb (magic s) 0xE9)) 21 0 _ e in
-    let counted = passed (not (count_right (segment_count s))) 22 1 _ of-magic.1 in
-    let of-chip = passed (not (eqb (chip_id s) board.chip.0)) 23 12 _ counted.1 in
-    let of-revision = passed (not (revision_fits s board.revision)) 31 15 _ of-chip.1 in
-    let least = leb (min_revision s) board.revision.0 in
-    let most = unlimited (max_revision s) || leb board.revision.0 (max_revision s) in
-    let from-to = both least most (not-false _ of-revision.0) in
+bind_ok : {A B : Type 0} (r : Result A ImageRefusal) (f : A → Result B ImageRefusal) (y : B) → (r >>= f) ≡ Ok y → (x : A) × ((r ≡ Ok x) × (f x ≡ Ok y))
+bind_ok (Ok x) f y e = (x, (refl, e))
+bind_ok (Err r) f y e = absurd cc
+
+same_ok : {x y : Facts} (r : Result Facts ImageRefusal) → r ≡ Ok x → r ≡ Ok y → x ≡ y
+same_ok r e f = cc
+
+-- an accepted image passed each test
+pub record Passed (image : List ℕ) (board : Board) (facts : Facts) : Type 0 where
+  pub ending : Ending
+  pub sized : nat_lt (length image) 288 ≡ false
+  pub header : header_test (header_of image) board ≡ Ok tt
+  pub walk : ending_of image ≡ Ok ending
+  pub descriptor : descriptor_test (head_of image) ≡ Ok tt
+  pub whole : length_test (length image) (digest_flag image) ending.end ≡ Ok tt
+  pub checksum : checksum_test (slice_index image (checksum_place ending.end)) ending ≡ Ok tt
+  pub version : version_test (head_of image) board.chip ≡ Ok tt
+  pub digest : digest_test image ending.end ≡ Ok tt
+  pub facts_are : facts_of (head_of image) ending.end ≡ facts
+
+pub accepted_passed : (image : List ℕ) (board : Board) (facts : Facts) → check image board ≡ Ok facts → Passed image board facts
+unfolding check
+accepted_passed image board facts accepted =
+    let a = next_ok _ _ facts accepted in
+    let b = next_ok _ _ facts a.1 in
+    let w = bind_ok _ _ facts b.1 in
+    let c = next_ok _ _ facts w.1.1 in
+    let d = next_ok _ _ facts c.1 in
+    let e = next_ok _ _ facts d.1 in
+    let f = next_ok _ _ facts e.1 in
+    let g = next_ok _ _ facts f.1 in
     record {
-      counted = not-false _ counted.0;
-      fits =
-          record {
-            chip = eqb-true _ _ (not-false _ of-chip.0);
-            at_least = leb-true _ _ from-to.0;
-            at_most = λ limited. leb-true _ _ (simp limited at from-to.1);
-          };
+      ending = w.0;
+      sized = guard_ok _ _ a.0;
+      header = b.0;
+      walk = w.1.0;
+      descriptor = c.0;
+      whole = d.0;
+      checksum = e.0;
+      version = f.0;
+      digest = g.0;
+      facts_are = same_ok _ refl g.1;
     }
 
--- an end that passes: segment 0 has a descriptor, and the image is not cut short
-pub record RightEnd (s : List ℕ) (ending : Ending) : Type 0 where
-  pub with_descriptor : described s ≡ true
-  pub whole : whole_length (digest_flag s) ending.e ≤ ending.length
+-- ---- the header
 
-right_end : (s : List ℕ) (board : Board) (ending : Ending) → end_tests s board ending ≡ Passed → RightEnd s ending
-unfolding end_tests
-right_end s board ending e =
-    let descriptor = passed (not (described s)) 26 32 _ e in
-    let cut = passed (ltb ending.length (whole_length (digest_flag s) ending.e)) 27 ending.e _ descriptor.1 in
-    record { with_descriptor = not-false _ descriptor.0; whole = ltb-false _ _ cut.0 }
+same_number : (a b : ℕ) → not (a == b) ≡ false → a ≡ b
+same_number a b same = grind (arith, nat_tests)
 
--- so the digest is there to be read
-pub not_cut_short : (s : List ℕ) (board : Board) (ending : Ending) → ending.length ≡ length s
-    → (t : Tested) → t ≡ end_tests s board ending → t ≡ Passed → whole_length (digest_flag s) ending.e ≤ length s
-not_cut_short s board ending long t tested p = omega (arith, (right_end s board ending (sym tested ∙ p)).whole)
+at_least_one : (count : ℕ) → not (is_count count) ≡ false → 1 ≤ count
+at_least_one count passed = grind (arith, nat_tests)
 
--- a digest that passes is the digest of what stands before it, where the flag is 1
-right_digest : (flag : ℕ) (before appended : List ℕ) → digest_test flag before appended ≡ Passed → flag ≡ 1 → appended ≡ digest before
-unfolding digest_test
-right_digest flag before appended e one =
-    let compared = passed (eqb flag 1 && not (same appended (digest before))) 30 (length before) Passed e in
-    same_equal appended (digest before) (not-false _ (simp (eq-eqb _ _ one) at compared.0))
+from_least : (least most n : ℕ) → not (nat_le least n && (is_unlimited most || nat_le n most)) ≡ false → least ≤ n
+from_least least most n fits = grind (arith, nat_tests)
 
-pub record IsAccepted (s : List ℕ) (board : Board) (facts : Facts) : Type 0 where
-  pub header : header_tests s board ≡ Passed
-  pub right : RightHeader s board
-  pub good : any_bad (segments s) ≡ false
-  pub ends : end_tests s board (ending_of s (segments s)) ≡ Passed
-  pub right_end : RightEnd s (ending_of s (segments s))
-  pub digested : digest_test (digest_flag s) (before_digest s (stop (segments s))) (appended_digest s (stop (segments s))) ≡ Passed
-  pub are : facts_of s (stop (segments s)) ≡ facts
+up_to_most : (least most n : ℕ) → not (nat_le least n && (is_unlimited most || nat_le n most)) ≡ false → is_unlimited most ≡ false → n ≤ most
+up_to_most least most n fits limited = grind (arith, nat_tests)
 
-pub is_accepted : (s : List ℕ) (board : Board) (facts : Facts) → (check s board).reply ≡ Accepted facts → IsAccepted s board facts
-unfolding check segment_test
-is_accepted s board facts e =
-    let segs = segments s in
-    let tested = then_accepts (length_test s) _ facts e in
-    let header = then_accepts (header_tests s board) (from_segments s board segs) facts tested.1 in
-    let walk = then_accepts (segment_test segs) (from_end s board (ending_of s segs)) facts header.1 in
-    let end = then_accepts (end_tests s board (ending_of s segs)) _ facts walk.1 in
-    let digested = then_accepts (digest_test (digest_flag s) (before_digest s (stop segs)) (appended_digest s (stop segs))) _ facts end.1 in
+pub record RightHeader (header : List ℕ) (board : Board) : Type 0 where
+  pub counted : 1 ≤ segment_count header
+  pub fits : Fits header board
+
+pub right_header : (header : List ℕ) (board : Board) → header_test header board ≡ Ok tt → RightHeader header board
+unfolding header_test revision_fits
+right_header header board passed =
+    let a = next_ok _ _ tt passed in
+    let b = next_ok _ _ tt a.1 in
+    let c = next_ok _ _ tt b.1 in
+    let d = next_ok _ _ tt c.1 in
     record {
-      header = header.0;
-      right = right_header s board header.0;
-      good = (passed (any_bad segs) 25 (stop segs) Passed walk.0).0;
-      ends = end.0;
-      right_end = right_end s board (ending_of s segs) end.0;
-      digested = digested.0;
-      are = let equal : Accepted (facts_of s (stop segs)) ≡ Accepted facts = digested.1 in cc;
+      counted = at_least_one (segment_count header) (guard_ok _ _ b.0);
+      fits =
+          record {
+            chip = same_number (chip_id header) board.chip.0 (guard_ok _ _ c.0);
+            at_least = from_least (min_revision header) (max_revision header) board.revision.0 (guard_ok _ _ d.0);
+            at_most = up_to_most (min_revision header) (max_revision header) board.revision.0 (guard_ok _ _ d.0);
+          };
     }
 
 pub accepted_fits : AcceptedFits
 unfolding AcceptedFits
-accepted_fits s board facts e = (is_accepted s board facts e).right.fits
+accepted_fits image board facts accepted =
+    let fits : Fits (header_of image) board = (right_header (header_of image) board (accepted_passed image board facts accepted).header).fits in
+    let least : min_revision (header_of image) ≡ min_revision image = front_two 24 image 15 (omega arith) in
+    let most : max_revision (header_of image) ≡ max_revision image = front_two 24 image 17 (omega arith) in
+    record {
+      chip = sym (front_two 24 image 12 (omega arith)) ∙ fits.chip;
+      at_least = rw least at fits.at_least;
+      at_most = rw most at fits.at_most;
+    }
+
+-- ---- the digest
+
+chosen : (test : Bool) (r : Result (Unit {0}) ImageRefusal) → (if test then r else Ok tt) ≡ Ok tt → test ≡ true → r ≡ Ok tt
+chosen true r e is = e
+chosen false r e is = cc
+
+not_not : (b : Bool) → not b ≡ false → true ≡ b
+not_not true e = refl
+not_not false e = cc
+
+is_one : (flag : ℕ) → flag ≡ 1 → (flag == 1) ≡ true
+is_one flag one = grind (arith, nat_tests)
+
+digest_same : (image : List ℕ) (end : ℕ) → digest_test image end ≡ Ok tt → digest_flag image ≡ 1 → appended_digest image end ≡ digest (before_digest image end)
+unfolding digest_test digest_compared
+digest_same image end passed flag = same_text _ _ (not_not _ (guard_ok _ _ (chosen (digest_flag image == 1) _ passed (is_one _ flag))))
 
 pub accepted_digest : AcceptedDigest
 unfolding AcceptedDigest
-accepted_digest s board facts e one = right_digest _ _ _ (is_accepted s board facts e).digested one
+accepted_digest image board facts accepted flag =
+    let passed : Passed image board facts = accepted_passed image board facts accepted in
+    (passed.ending, (passed.walk, digest_same image passed.ending.end passed.digest flag))
 
--- it is as long as its bytes at most
-pub within : (s : List ℕ) (board : Board) (facts : Facts) → (check s board).reply ≡ Accepted facts → facts.length ≤ length s
-within s board facts e =
-    let a = is_accepted s board facts e in
-    subst (λ (f : Facts). f.length ≤ length s) a.are a.right_end.whole
+-- ---- the length
+
+enough : (size whole : ℕ) → nat_lt size whole ≡ false → whole ≤ size
+enough size whole passed = grind (arith, nat_tests)
+
+pub long_enough : (size flag end : ℕ) → length_test size flag end ≡ Ok tt → whole_length flag end ≤ size
+unfolding length_test
+long_enough size flag end passed = enough size (whole_length flag end) (guard_ok _ _ passed)
+
+pub enough_passes : (size flag end : ℕ) → whole_length flag end ≤ size → length_test size flag end ≡ Ok tt
+unfolding length_test
+enough_passes size flag end long = grind (arith, nat_tests)
+
+-- the whole length of an accepted image
+pub length_is : (image : List ℕ) (board : Board) (facts : Facts) (passed : Passed image board facts) → facts.length ≡ whole_length (digest_flag image) passed.ending.end
+unfolding facts_of
+length_is image board facts passed =
+    sym (ap (λ (f : Facts). f.length) passed.facts_are) ∙ ap (λ (flag : ℕ). whole_length flag passed.ending.end) (get_or-take 40 image 23 0 (omega arith))
+
+pub accepted_within : AcceptedWithin
+unfolding AcceptedWithin
+accepted_within image board facts accepted =
+    let passed : Passed image board facts = accepted_passed image board facts accepted in
+    omega (arith, length_is image board facts passed, long_enough (length image) (digest_flag image) passed.ending.end passed.whole)

@@ -1,8 +1,6 @@
 pub mod Acceptance
-pub mod Comparison
 pub mod Examples
 pub mod Head
-pub mod Refusals
-pub mod Segments
 pub mod Tail
+pub mod Walk
 pub mod Xored

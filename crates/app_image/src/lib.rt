@@ -1,90 +1,91 @@
+//! The check of an app image for a board.
 #![tactic(auto)]
 
-// The check of an app image.
-mod checks;
+pub mod laws;
 mod layout;
+mod refusal;
+mod sums;
+mod tests_in_order;
 
-pub use checks::check;
+ghost use Rattle.std.specs.Prelude.{◌≡◌, ◌≤◌, length};
+ghost use Rattle.app_image.specs.Layout.{header_of, head_of};
+ghost use Rattle.app_image.specs.Check.{check};
+
 use efuse::{ChipId, SecureVersion};
+use layout::checksum_place;
+pub use layout::{Segment, segment_at};
+pub use refusal::ImageRefusal;
+pub use tests_in_order::test_header;
+use tests_in_order::{
+    facts_of, test_checksum, test_descriptor, test_digest, test_length, test_version,
+};
 
-// The numbers of a refused image, those of document 01 and, tested after 29 and after 23, those of document 02.
-pub const TOO_SHORT: u32 = 20;
+/// The bytes of the shortest image: its header, the header of segment 0, and the descriptor.
+pub const SHORTEST: usize = 288;
 
-pub const WRONG_MAGIC: u32 = 21;
+/// The bytes of an image's header.
+pub const HEADER_SIZE: usize = 24;
 
-pub const WRONG_SEGMENT_COUNT: u32 = 22;
+/// The bytes of an image's head: its header, the header of segment 0, and the descriptor's word and secure version.
+pub const HEAD_SIZE: usize = 40;
 
-pub const WRONG_CHIP: u32 = 23;
+/// The bytes of a segment's header.
+pub const SEGMENT_HEADER_SIZE: usize = 8;
 
-pub const WRONG_DIGEST_FLAG: u32 = 24;
+/// The bytes of the appended digest.
+pub const DIGEST_SIZE: usize = 32;
 
-pub const BAD_SEGMENT: u32 = 25;
-
-pub const NO_DESCRIPTOR: u32 = 26;
-
-pub const CUT_SHORT: u32 = 27;
-
-pub const WRONG_CHECKSUM: u32 = 28;
-
-pub const VERSION_TOO_HIGH: u32 = 29;
-
-pub const WRONG_DIGEST: u32 = 30;
-
-pub const WRONG_REVISION: u32 = 31;
-
-// A chip's revision: major × 100 + minor.
-#[derive(Clone, Copy)]
+/// A chip's revision: major × 100 + minor.
+#[derive(Clone, Copy, Debug, PartialEq, Eq, PartialOrd, Ord, Hash)]
 pub struct Revision(pub u16);
 
-// The board that an image must fit: the chip id, and the chip's revision.
-#[derive(Clone, Copy)]
+/// The board that an image must fit: the chip's id, and its revision.
+#[derive(Clone, Copy, Debug, PartialEq, Eq)]
 pub struct Board {
     pub chip: ChipId,
     pub revision: Revision,
 }
 
-// Why an image is refused: the number, and the place in the image.
-#[derive(Clone, Copy)]
-pub struct Refusal {
-    pub number: u32,
-    pub place: usize,
-}
-
-// What is known of an accepted image: its whole length, its entry address, its secure version and its number of segments.
-#[derive(Clone, Copy)]
+/// What is known of an accepted image: its whole length in bytes, its entry address, its secure version and its number of segments.
+#[derive(Clone, Copy, Debug, PartialEq, Eq)]
 pub struct Facts {
     pub length: usize,
     pub entry: u32,
     pub version: SecureVersion,
-    pub segments: u32,
+    pub segments: u8,
 }
 
-// The answer of the check.
-#[derive(Clone, Copy)]
-pub enum Checked {
-    Refused(Refusal),
-    Accepted(Facts),
+/// Checks an image for a board: the facts, or why it is refused. Bytes after the image are ignored.
+#[tactic(auto, unfolding(crate::specs::Check::check))]
+pub fn check(image: &[u8], board: Board) -> Result<Facts, ImageRefusal>
+    ensures { result ≡ check image.now board }
+{
+    if image.len() < SHORTEST {
+        return Err(ImageRefusal::TooShort);
+    }
+    test_header(header_of(image), board)?;
+    let head = head_of(image);
+    let ending = layout::walk(image, image[1])?;
+    test_descriptor(head)?;
+    test_length(image.len(), image[23], ending.end)?;
+    test_checksum(image[checksum_place(ending.end)], ending)?;
+    test_version(head, board.chip)?;
+    test_digest(image, ending.end)?;
+    Ok(facts_of(head, ending.end))
 }
 
-// The outcome of some of its tests.
-#[derive(Clone, Copy)]
-pub(crate) enum Tested {
-    Passed,
-    Failed(Refusal),
+/// The header of an image.
+fn header_of(image: &[u8]) -> &[u8; HEADER_SIZE]
+    requires { HEADER_SIZE ≤ length image.now }
+    ensures { result.now ≡ header_of image.now }
+{
+    image.first_chunk().unwrap()
 }
 
-// How an image ends: its length, where its segments end, the checksum of their data, and the byte in its place, or 0 past the end.
-#[derive(Clone, Copy)]
-pub(crate) struct Ending {
-    length: usize,
-    e: usize,
-    sum: u8,
-    stored: u8,
-}
-
-// Where the segments end and the checksum of their data, or where the first bad one begins.
-#[derive(Clone, Copy)]
-pub(crate) enum Walked {
-    Bad(usize),
-    Ends(usize, u8),
+/// The head of an image.
+fn head_of(image: &[u8]) -> &[u8; HEAD_SIZE]
+    requires { HEAD_SIZE ≤ length image.now }
+    ensures { result.now ≡ head_of image.now }
+{
+    image.first_chunk().unwrap()
 }

@@ -1,104 +1,82 @@
--- The definitions evaluated: document 01's example of a fall back, and small ones.
--- Assumes nothing.
-use Prim.Native.Nat.{ℕ}
-use mathlib.Core.Path.{◌≡◌, refl, ap}
-use mathlib.Core.Bool.{true, false}
-use mathlib.Core.List.{List, [], ◌∷◌}
-use lib.Count.{ones_in}
-use lib.ListN.{length}
-use Rattle.otadata.specs.declared.Slot.{Slot}
-use Rattle.otadata.specs.declared.State.{State}
-use Rattle.otadata.specs.declared.State.TheVariants.{New, Valid, Aborted}
-use Rattle.otadata.specs.declared.Verdict.TheVariants.{Good}
-use Rattle.otadata.specs.declared.Reading.{Reading}
-use Rattle.sectors.specs.declared.Holder.TheVariants.{Sector}
-use Rattle.otadata.specs.Records.{names_slot, no_reading}
-use Rattle.sectors.specs.Sectors.{active}
-use Rattle.otadata.proofs.Booleans.{true_is_not_false}
+-- The definitions on examples, evaluated.
+use Rattle.std.proofs.Common.{◌≡◌, ℕ, List, [], ◌∷◌, length, Option, Some, None, Err, IsSome, is_ok, false, true≢false, refl, sym, ap, ◌∙◌, arith}
+use Rattle.std.proofs.lemmas.Bool.Decides.{nat_tests}
+use Rattle.std.specs.Int.Count.{ones_in}
 use Rattle.efuse.specs.Register.{width, set_lowest, raised}
-use Rattle.partitions.specs.declared.App.TheVariants.{OtaSlot}
-use Rattle.partitions.specs.PartitionList.{count_below, factory_subtype, times_listed, slot_count, right, checked}
+use Rattle.otadata.specs.declared.states.State.TheVariants.{Aborted}
+use Rattle.otadata.specs.Record.{Reading}
+use Rattle.partitions.specs.declared.list.App.TheVariants.{OtaSlot}
+use Rattle.partitions.specs.PartitionList.{keep_rules, slot_count, is_right, list_of}
 use Rattle.app_image.specs.declared.Facts.{Facts}
-use Rattle.app_image.specs.Check.{board_of}
-use Rattle.boot_choice.specs.declared.Settings.{Settings}
-use Rattle.boot_choice.specs.declared.Passing.TheVariants.{No, Yes}
-use Rattle.boot_choice.specs.declared.Choice.TheVariants.{Nothing, Through, Found}
-use Rattle.boot_choice.specs.Acceptance.{otadata_size, accepted_node, accepted}
-use Rattle.boot_choice.specs.Choice.{passing, Passes, through_record, through_records, factory, barred, candidate, search_from, choice}
-use Rattle.boot_choice.specs.Example.{example_list, example_flash, example_settings}
-use Rattle.boot_choice.proofs.Examples.{example_node}
-use Rattle.boot.specs.Boot.{any_good, register_after, passed_tests, Accepts}
-use Rattle.boot.proofs.ThroughRecords.{passed_facts}
+use Rattle.node.specs.declared.Node.{Node}
+use Rattle.node.specs.declared.refusal.Refusal.TheVariants.{BadList}
+use Rattle.node.specs.Node.{otadata_size, node_of, passing}
+use Rattle.boot_choice.specs.declared.Choice.TheVariants.{Found}
+use Rattle.boot_choice.specs.Choice.{slots_of, through_reading, through_active, factory, is_barred, candidate, first_from, last_search, choice}
+use Rattle.boot_choice.specs.Example.{example_settings}
+use Rattle.boot_choice.proofs.Examples.{is_node}
+use Rattle.boot.specs.Boot.{Accepts}
+use Rattle.boot.specs.Examples.{slot_1, good, no_record, ThroughFour, FallsBack, PassesOver, Raises, BootExamples}
 
-abbrev pub slot1 : Slot
-slot1 = record { 0 = 1 }
+-- ---- a fall back
 
-abbrev pub good_reading : ℕ → State → List ℕ → Reading
-good_reading q state label = record { verdict = Good (record { 0 = q }) state; label = label }
+through_four : (node : Node) (facts : Facts) (a b : List ℕ) → slots_of node ≡ 2 → passing node (OtaSlot slot_1) ≡ Some facts → ThroughFour node facts a b
+unfolding choice through_active through_reading
+through_four node facts a b two passes = record { in_sector_0 = rw (two, passes) refl; in_sector_1 = rw (two, passes) refl }
 
--- document 01: sequences 4 valid and 5 aborted, n = 2, slot 1 passes: slot 1 through sequence 4, whichever sector holds it
-module _ (list flash : List ℕ) (settings : Settings) (a b : List ℕ) where
-  abbrev pub ThroughFour : Facts → Type 0
-  ThroughFour facts =
-      (choice list flash settings (good_reading 4 Valid a ∷ good_reading 5 Aborted b ∷ []) ≡ Through 0 slot1 facts)
-      × (choice list flash settings (good_reading 5 Aborted b ∷ good_reading 4 Valid a ∷ []) ≡ Through 1 slot1 facts)
+facts_of : (some : Option Facts) → IsSome some → (facts : Facts) × (some ≡ Some facts)
+facts_of None is = cc
+facts_of (Some facts) is = (facts, refl)
 
-  module _ (n : slot_count list ≡ 2) where
-    through_four : (facts : Facts) → passing list flash settings (OtaSlot slot1) ≡ Yes facts → ThroughFour facts
-    unfolding choice through_records through_record active names_slot
-    through_four facts p = (simp (n, p), simp (n, p))
+falls_back : FallsBack
+falls_back node a b two passes =
+    let (facts, is) = facts_of (passing node (OtaSlot slot_1)) passes in (facts, through_four node facts a b two is)
 
-    pub falls_back : Passes list flash settings (OtaSlot slot1) → (facts : Facts) × ThroughFour facts
-    falls_back passes = let (facts, p) = passed_facts _ passes in (facts, through_four facts p)
+-- ---- the last search
 
--- the higher sequence is active, and sector 0 on a tie
-pub higher : active (good_reading 4 Valid [] ∷ good_reading 5 New [] ∷ []) ≡ Sector 1
-unfolding active
-higher = refl
+abbrev aborted_alone : List Reading
+aborted_alone = good 5 Aborted [] ∷ no_record ∷ []
 
-pub tie : active (good_reading 4 Valid [] ∷ good_reading 4 New [] ∷ []) ≡ Sector 0
-unfolding active
-tie = refl
+module _ (node : Node) (facts : Facts) (two : slots_of node ≡ 2) where
+  slot_0_barred : candidate node aborted_alone (record { 0 = 0 }) ≡ None
+  unfolding candidate is_barred
+  slot_0_barred = rw two refl
 
--- the last search passes over slot 0, which an aborted record names, whether it passes or not, and takes slot 1
-module _ (list flash : List ℕ) (settings : Settings) (facts : Facts) (n : slot_count list ≡ 2) (p : passing list flash settings (OtaSlot slot1) ≡ Yes facts) where
-  abbrev aborted_alone : List Reading
-  aborted_alone = good_reading 5 Aborted [] ∷ no_reading ∷ []
+  slot_1_found : passing node (OtaSlot slot_1) ≡ Some facts → candidate node aborted_alone slot_1 ≡ Some (Found slot_1 facts)
+  unfolding candidate is_barred
+  slot_1_found passes = rw (two, passes) refl
 
-  candidates : (candidate list flash settings aborted_alone (record { 0 = 0 }) ≡ No) × (candidate list flash settings aborted_alone slot1 ≡ Yes facts)
-  unfolding candidate barred names_slot no_reading
-  candidates = (simp n, simp (n, p))
+passes_over : PassesOver
+unfolding choice through_active through_reading factory last_search first_from
+passes_over node facts two passes no_factory =
+    rw (two, no_factory, slot_0_barred node facts two, slot_1_found node facts two passes) refl
 
-  not_listed : times_listed list factory_subtype ≡ 0 → factory list flash settings ≡ Nothing
-  unfolding factory
-  not_listed none = simp none
+-- ---- the register
 
-  pub passes_over : times_listed list factory_subtype ≡ 0 → choice list flash settings aborted_alone ≡ Found slot1 facts
-  unfolding choice through_records search_from active no_reading
-  passes_over none = rw n (simp (not_listed none, candidates.0, candidates.1))
+raises : (facts : Facts) → facts.version.0 ≡ 4 → Raises facts
+unfolding width raised set_lowest ones_in
+raises facts is = record { on_32_bits = rw is refl; on_16_bits = rw is refl; not_with_a_record = λ chip. refl }
 
--- a slot that it found raises the register to its app's version, 4, while neither sector holds a good record
-abbrev protected : ℕ → ℕ → Settings
-protected chip efuse = record { board = board_of chip 0; efuse = efuse; rollback = true; anti_rollback = true }
+-- ---- an empty list
 
-module _ (facts : Facts) (v : facts.version.0 ≡ 4) where
-  pub raises : register_after (protected 0 0x0B) (no_reading ∷ no_reading ∷ []) (Found slot1 facts) ≡ 0x0F
-  unfolding register_after any_good no_reading width raised set_lowest ones_in
-  raises = simp v
+empty_breaks_rules : (capacity : ℕ) → keep_rules [] capacity ≡ false
+unfolding keep_rules slot_count
+empty_breaks_rules capacity = grind (arith, nat_tests)
 
-  -- on chip 16 the ones above the width neither count nor change
-  pub raises_16_bits : register_after (protected 16 0xFFFF000B) (no_reading ∷ no_reading ∷ []) (Found slot1 facts) ≡ 0xFFFF000F
-  unfolding register_after any_good no_reading width raised set_lowest ones_in
-  raises_16_bits = simp v
+no_node : (flash : List ℕ) → node_of [] flash otadata_size example_settings ≡ Err BadList
+unfolding node_of list_of is_right
+no_node flash = rw (empty_breaks_rules (length flash)) refl
 
-  pub keeps : (chip : ℕ) → register_after (protected chip 0x0B) (no_reading ∷ good_reading 5 Aborted [] ∷ []) (Found slot1 facts) ≡ 0x0B
-  unfolding register_after any_good no_reading
-  keeps chip = refl
+-- ---- all of them
 
--- boot accepts the example node, and no node with an empty list
-pub accepts : Accepts example_list (length example_flash) otadata_size example_settings
-accepts = ap passed_tests example_node.accepts
-
-no_list : Accepts [] 69632 otadata_size example_settings → ⊥
-unfolding accepted accepted_node checked right count_below
-no_list e = true_is_not_false false e refl
+pub boot_examples : BootExamples
+boot_examples =
+    record {
+      falls_back = falls_back;
+      passes_over = passes_over;
+      raises = raises;
+      higher = refl;
+      tie = refl;
+      accepts = ap is_ok is_node;
+      no_list = λ (flash : List ℕ) (accepts : Accepts [] flash otadata_size example_settings). true≢false (sym accepts ∙ ap is_ok (no_node flash));
+    }

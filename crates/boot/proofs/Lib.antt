@@ -1,6 +1,2 @@
-pub mod ChoiceLaws
+pub mod Answers
 pub mod Examples
-pub mod Marking
-pub mod Replies
-pub mod TestLaws
-pub mod ThroughRecords

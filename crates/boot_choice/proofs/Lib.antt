@@ -1,4 +1,3 @@
 pub mod Examples
-pub mod FirstTests
-pub mod Order
-pub mod Tries
+pub mod SameTests
+pub mod Search

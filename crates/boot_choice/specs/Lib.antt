@@ -1,4 +1,3 @@
-pub mod Acceptance
 pub mod Choice
 pub mod Example
-pub mod NodeRegister
+pub mod Parts

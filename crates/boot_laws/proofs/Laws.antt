@@ -1,263 +1,289 @@
 -- What holds of every boot, on any bytes: which app is started, and what is changed.
 -- Assumes nothing.
-use Prim.Native.Nat.{ℕ, ◌<◌, ◌≤◌}
-use mathlib.Core.Path.{◌≡◌, ◌∙◌, refl, sym, ap, subst}
-use mathlib.Core.Bool.{true, false}
-use mathlib.Core.List.{List}
-use mathlib.Core.Logic.{◌⊎◌, inl, inr}
-use native.Mathlib.Omega.{arith}
-use lib.ListN.{length}
-use borrow.Author.Tests.{ltb-false}
-use Rattle.otadata.specs.Answers.{outcome}
-use Rattle.otadata.specs.declared.State.{State}
-use Rattle.otadata.specs.declared.State.TheVariants.{New, Pending, Aborted}
-use Rattle.otadata.specs.declared.Reading.{Reading}
-use Rattle.sectors.specs.declared.Holder.TheVariants.{None, Sector}
-use Rattle.otadata.specs.Records.{usable, usable_verdict, no_reading}
-use Rattle.sectors.specs.Sectors.{sector_reading, readings_of}
-use Rattle.otadata.proofs.Booleans.{true_is_not_false}
-use Rattle.partitions.specs.declared.App.{App}
-use Rattle.partitions.specs.declared.Checked.{Checked}
+use Rattle.std.proofs.Common.{◌≡◌, ◌≢◌, ℕ, Bool, true, false, List, ◌++◌, length, take, drop, Option, Some, None, Result, Ok, Err, is_some, ◌⊎◌, inl, inr, subst, refl, sym, ap, ap₂, ◌∙◌, arith, ltb-false, take-append-drop}
+use Rattle.std.specs.Prelude.{IsOk}
+use Rattle.std.specs.Result.{result_ok}
+use Rattle.otadata.specs.declared.records.Sequence.{Sequence}
+use Rattle.otadata.specs.declared.states.State.{State}
+use Rattle.otadata.specs.declared.states.State.TheVariants.{New, Pending, Aborted}
+use Rattle.otadata.specs.Record.{Reading}
+use Rattle.sectors.specs.declared.reading.SectorNumber.{SectorNumber}
+use Rattle.sectors.specs.declared.reading.SectorNumber.TheVariants.{Zero, One}
+use Rattle.sectors.specs.Sector.{read_sector, usable_sequence}
+use Rattle.partitions.specs.declared.list.App.{App}
 use Rattle.app_image.specs.declared.Facts.{Facts}
-use Rattle.app_image.specs.Check.{check, AcceptedFits}
-use Rattle.boot_choice.specs.declared.Settings.{Settings}
-use Rattle.boot_choice.specs.declared.Passing.TheVariants.{Yes}
+use Rattle.app_image.specs.declared.refusal.ImageRefusal.{ImageRefusal}
+use Rattle.app_image.specs.Check.{check}
+use Rattle.app_image.specs.Laws.{AcceptedFits, AcceptedWithin}
+use Rattle.app_image.proofs.Acceptance.{accepted_fits, accepted_within}
+use Rattle.node.specs.declared.Settings.{Settings}
+use Rattle.node.specs.declared.Node.{Node}
+use Rattle.node.specs.declared.refusal.Refusal.{Refusal}
+use Rattle.node.specs.declared.refusal.Refusal.TheVariants.{BelowEfuse}
+use Rattle.node.specs.Node.{otadata_size, image, image_test, admitted, passing}
+use Rattle.node.specs.Refusal.{number_of, ◌>>=◌, ◌>>◌, refuse_if}
+use Rattle.node.specs.Settings.{efuse_version, is_below_efuse}
 use Rattle.boot_choice.specs.declared.Choice.{Choice}
-use Rattle.boot_choice.specs.declared.Choice.TheVariants.{Nothing, Through, Factory, Found}
+use Rattle.boot_choice.specs.Choice.{choice}
+use Rattle.boot_choice.specs.declared.Choice.TheVariants.{Recorded, Factory, Found}
 use Rattle.boot.specs.declared.Start.{Start}
-use Rattle.boot.specs.declared.Refusal.{Refusal}
-use Rattle.boot.specs.declared.Reply.TheVariants.{Refused, Starts}
-use Rattle.boot_choice.specs.Choice.{image, passing, choice}
-use Rattle.boot.specs.Boot.{view, Outcome, marked, used_sector, awaiting, reply_to, from_marks, by_tests, refused, boot, passed_tests, Accepts}
-use Rattle.boot_laws.specs.Laws.{UsableAt, ThroughUsable, NotBelow, StartsNotBelow, Never, NeverLaw, OfImage, ImageLaw, ViewLaw, AcceptanceLaw, RefusalKeeps, RefusalLaw, Change, OtherState, OnlyStates, StateLaw}
-use Rattle.app_image.proofs.Acceptance.{within, accepted_fits}
-use Rattle.boot.proofs.ChoiceLaws.{held_by, passing_accepted, Sound, nothing, through, by_factory, found, choice_sound}
-use Rattle.boot_laws.proofs.Changes.{Restates, KeptOr, marks, no_marks, awaits, awaiting_size, no_awaiting}
-use Rattle.boot.proofs.Replies.{same_start, no_start, passing_start, after_marks, replies}
-use Rattle.boot.proofs.TestLaws.{OneToThree, Tested, fails, passes, tests_decide}
-use Rattle.boot.proofs.Marking.{marked_size}
-use Rattle.sectors.proofs.TwoSectors.{readings_at}
+use Rattle.boot.specs.Boot.{settled, first_of, second_of, reply_by, reply_of, boot_reply, pended_by}
+use Rattle.boot.specs.Answer.{register_of}
+use Rattle.boot_laws.specs.Laws.{Boot, accepted, reply, sector, marked, UsableAt, NotBelow, NeverLaw, OfImage, ImageLaw, AcceptanceLaw, RefusalLaw, Change, OtherState, StateLaw}
+use Rattle.boot_laws.proofs.Marks.{Restates, KeptOr}
+use Rattle.boot_laws.proofs.Choices.{reading_at, Always, Sound}
+use Rattle.boot_laws.proofs.Boots.{second_is, OneToThree, tests_decide, accepted_is, reply_accepted, after_marks, reply_with, left_with, SoundAfterMarks, every_boot}
+use Rattle.boot_laws.proofs.Changes.{settles, no_settling, pends, no_pending, left_size, left_sector, usable_before, usable_after}
 
 -- ---- an app that passes
 
-not_below : (list flash : List ℕ) (settings : Settings) (app : App) (facts : Facts)
-    → passing list flash settings app ≡ Yes facts → NotBelow list flash settings app
-unfolding passing
-not_below list flash settings app facts e =
-    let (is, right) = held_by settings (check (image list flash app) settings.board).reply facts e in
-    record {
-      facts = facts;
-      accepted = is;
-      not_below = λ (on : settings.anti_rollback ≡ true). ltb-false _ _ (rw on at right);
-    }
+-- its image is accepted, and its version not below that of the register
+record Passing (node : Node) (app : App) (facts : Facts) : Type 0 where
+  is_accepted : check (image node app) node.settings.board ≡ Ok facts
+  not_below : is_below_efuse node.settings facts.version ≡ false
 
--- ---- replies
+held_if : (below : Bool) (found facts : Facts) → result_ok (refuse_if below BelowEfuse >> Ok found) ≡ Some facts → (below ≡ false) × (found ≡ facts)
+held_if true found facts is = absurd cc
+held_if false found facts is = (refl, cc)
 
-same_refusal : {r s : Refusal} → Refused r ≡ Refused s → r ≡ s
+held_by : (settings : Settings) (checked : Result Facts ImageRefusal) (facts : Facts)
+    → result_ok (image_test checked >>= (λ found. refuse_if (is_below_efuse settings found.version) BelowEfuse >> Ok found)) ≡ Some facts
+    → (checked ≡ Ok facts) × (is_below_efuse settings facts.version ≡ false)
+held_by settings (Err refusal) facts is = absurd cc
+held_by settings (Ok found) facts is =
+    let tests = held_if (is_below_efuse settings found.version) found facts is in
+    (ap Ok tests.1, subst (λ (f : Facts). is_below_efuse settings f.version ≡ false) tests.1 tests.0)
+
+passing_is : (node : Node) (app : App) (facts : Facts) → passing node app ≡ Some facts → Passing node app facts
+unfolding passing admitted
+passing_is node app facts is =
+    let tests = held_by node.settings (check (image node app) node.settings.board) facts is in
+    record { is_accepted = tests.0; not_below = tests.1 }
+
+-- ---- a start
+
+no_start : {start : Start} {refusal : Refusal} → ◌≡◌ {A = Result Start Refusal} (Err refusal) (Ok start) → ⊥
+no_start e = cc
+
+pub same_start : {x y : Start} → ◌≡◌ {A = Result Start Refusal} (Ok x) (Ok y) → x ≡ y
+same_start e = cc
+
+same_refusal : {x y : Refusal} → ◌≡◌ {A = Result Start Refusal} (Err x) (Err y) → x ≡ y
 same_refusal e = cc
 
-pub same_sector : {j k : ℕ} → Sector j ≡ Sector k → j ≡ k
-same_sector e = cc
+-- a start is of an app that passes, with the facts of its image
+module _ (node : Node) (first second : Reading) (readings : List Reading) where
+  start_passes : (made : Option Choice) → Always made (Sound node first second) → (start : Start) → reply_by node.settings readings made ≡ Ok start
+      → passing node start.app ≡ Some start.facts
+  start_passes None sound start e = absurd cc
+  start_passes (Some (Recorded k slot facts)) sound start e =
+      let same = same_start e in
+      subst (λ (s : Start). passing node s.app ≡ Some s.facts) same (sound (Recorded k slot facts) refl).passes
+  start_passes (Some (Factory facts)) sound start e =
+      let same = same_start e in
+      subst (λ (s : Start). passing node s.app ≡ Some s.facts) same (sound (Factory facts) refl)
+  start_passes (Some (Found slot facts)) sound start e =
+      let same = same_start e in
+      subst (λ (s : Start). passing node s.app ≡ Some s.facts) same (sound (Found slot facts) refl)
 
-no_sector : {k : ℕ} → None ≡ Sector k → ⊥
-no_sector e = let z : ◌≡◌ {A = ℕ} 0 1 = cc in omega arith
-
--- ---- every boot
-
--- steps 3 and 4, of a choice made on the sectors as step 1 left them
-abbrev from_choice : Settings → List ℕ → Choice → Outcome
-from_choice settings o made = outcome (reply_to settings (readings_of (marked settings o)) made) (awaiting settings (used_sector made) (marked settings o))
-
-module _ (list flash o : List ℕ) (settings : Settings) where
-  abbrev SoundAfterMarks : Choice → Type 0
-  SoundAfterMarks = Sound list flash settings (readings_of (marked settings o))
-
-  -- what holds of each refusal of tests 1 to 3, and of each choice, holds of every boot
-  every_boot : (P : Outcome → Type 0)
-      → ((number : ℕ) → OneToThree number → P (outcome (refused settings number) o))
-      → (length o ≡ 8192 → (made : Choice) → SoundAfterMarks made → P (from_choice settings o made))
-      → P (boot list flash o settings)
-  unfolding boot from_marks
-  every_boot P refusals choices = by (tests_decide list (length flash) (length o) settings)
-    where
-      by : {c : Checked} → Tested (length o ≡ 8192) c → P (by_tests list flash o settings c)
-      by (fails l) = refusals _ l
-      by (passes size) = choices size _ (choice_sound list flash settings (readings_of (marked settings o)))
+  -- one through a sector came through its usable record
+  came_through : (made : Option Choice) → Always made (Sound node first second) → (start : Start) (k : SectorNumber)
+      → reply_by node.settings readings made ≡ Ok start → start.through ≡ Some k → (q : Sequence) × (usable_sequence (reading_at first second k) ≡ Some q)
+  came_through None sound start k e through = absurd cc
+  came_through (Some (Recorded j slot facts)) sound start k e through =
+      let same : j ≡ k = cc (same_start e, through) in
+      let from = sound (Recorded j slot facts) refl in
+      subst (λ (i : SectorNumber). (q : Sequence) × (usable_sequence (reading_at first second i) ≡ Some q)) same (from.sequence, from.is_usable)
+  came_through (Some (Factory facts)) sound start k e through = absurd (cc (same_start e, through))
+  came_through (Some (Found slot facts)) sound start k e through = absurd (cc (same_start e, through))
 
 -- ---- which app is started
 
--- a record that is usable after the aborted marks was usable before them
-usable_before : (settings : Settings) (s t : List ℕ) → KeptOr settings Pending Aborted s t → usable (sector_reading t) ≡ true → usable (sector_reading s) ≡ true
-usable_before settings s t (inl same) u = rw same at u
-usable_before settings s t (inr r) u = absurd (true_is_not_false (usable (sector_reading t)) u (ap usable_verdict r.is))
+-- every boot of an accepted node
+module _ (boot : Boot) (node : Node) (of_boot : accepted boot ≡ Ok node) (made : Option Choice) (sound : Always made (SoundAfterMarks node boot.otadata)) where
+  usable_marked : length boot.otadata ≡ otadata_size → (k : SectorNumber) (q : Sequence)
+      → usable_sequence (reading_at (read_sector (first_of node.settings boot.otadata)) (read_sector (second_of node.settings boot.otadata)) k) ≡ Some q
+      → usable_sequence (read_sector (settled node.settings (sector k boot.otadata))) ≡ Some q
+  usable_marked size Zero q usable = usable
+  usable_marked size One q usable = rw (second_is boot.otadata size) usable
 
--- and the pending mark keeps it usable
-usable_after : (settings : Settings) (s t : List ℕ) → KeptOr settings New Pending s t → usable (sector_reading s) ≡ true → usable (sector_reading t) ≡ true
-usable_after settings s t (inl same) u = rw same u
-usable_after settings s t (inr r) u = ap usable_verdict r.is
+  usable_both : (start : Start) (k : SectorNumber) → reply_with node boot.otadata made ≡ Ok start → start.through ≡ Some k
+      → UsableAt k boot.otadata × UsableAt k (left_with node boot.otadata made)
+  usable_both start k e through =
+      let size = (accepted_is boot node of_boot).size in
+      let from = came_through node (read_sector (first_of node.settings boot.otadata)) (read_sector (second_of node.settings boot.otadata)) (after_marks node boot.otadata) made sound start k e through in
+      let s = sector k boot.otadata in
+      let now = usable_marked size k from.0 from.1 in
+      let before = usable_before node.settings s (settled node.settings s) from.0 (settles node.settings s) now in
+      let after = usable_after node.settings (settled node.settings s) (pended_by node.settings k made (settled node.settings s)) from.0 (pends node.settings (settled node.settings s) k made) now in
+      (ap is_some before, ap (λ t. is_some (usable_sequence (read_sector t))) (left_sector node boot.otadata size made k) ∙ ap is_some after)
 
-module _ (list flash o : List ℕ) (settings : Settings) where
-  -- the record that it came through is usable after the aborted marks
-  came_through : {made : Choice} → SoundAfterMarks list flash o settings made
-      → (start : Start) (k : ℕ) → (from_choice settings o made).reply ≡ Starts start → start.through ≡ Sector k
-      → (k < 2) × UsableAt k (marked settings o)
-  came_through nothing start k e by = absurd (no_start e)
-  came_through (through {k = j} l u p) start k e by =
-      subst (λ (i : ℕ). (i < 2) × UsableAt i (marked settings o)) (same_sector (ap (λ (s : Start). s.through) (same_start e) ∙ by))
-      (l, rw (readings_at j l (marked settings o) no_reading) at u)
-  came_through (by_factory p) start k e by = absurd (no_sector (ap (λ (s : Start). s.through) (same_start e) ∙ by))
-  came_through (found p) start k e by = absurd (no_sector (ap (λ (s : Start). s.through) (same_start e) ∙ by))
+  passes : (start : Start) → reply_with node boot.otadata made ≡ Ok start → Passing node start.app start.facts
+  passes start e =
+      passing_is node start.app start.facts
+      (start_passes node (read_sector (first_of node.settings boot.otadata)) (read_sector (second_of node.settings boot.otadata)) (after_marks node boot.otadata) made sound start e)
 
-  through_usable : length o ≡ 8192 → {made : Choice} → SoundAfterMarks list flash o settings made → ThroughUsable o (from_choice settings o made)
-  through_usable size made start k e by =
-      let (l, u) = came_through made start k e by in (
-        usable_before settings _ _ (marks settings o size k l) u,
-        usable_after settings _ _ (awaits list flash settings _ (marked settings o) (marked_size settings o size) made k l) u,
-      )
+  starts_not_below : (start : Start) → reply_with node boot.otadata made ≡ Ok start → NotBelow boot start.app
+  starts_not_below start e =
+      let p = passes start e in
+      let same = (accepted_is boot node of_boot).same_settings in
+      record {
+        node = node;
+        of_boot = of_boot;
+        facts = start.facts;
+        is_accepted = ap (λ (s : Settings). check (image node start.app) s.board) (sym same) ∙ p.is_accepted;
+        not_below = λ (on : boot.settings.anti_rollback ≡ true). ltb-false start.facts.version.0 (efuse_version boot.settings) (rw (same, on) at p.not_below);
+      }
 
-  starts_not_below : {made : Choice} → SoundAfterMarks list flash o settings made → StartsNotBelow list flash settings (from_choice settings o made)
-  starts_not_below m start e =
-      let of = passing_start list flash settings (readings_of (marked settings o)) m start e in
-      not_below list flash settings start.app of.facts of.passes
+  starts_image : (start : Start) → reply_with node boot.otadata made ≡ Ok start → OfImage boot start.app start.facts.length start.facts.entry
+  unfolding AcceptedFits AcceptedWithin
+  starts_image start e =
+      let p = passes start e in
+      let same = (accepted_is boot node of_boot).same_settings in
+      let is_accepted = ap (λ (s : Settings). check (image node start.app) s.board) (sym same) ∙ p.is_accepted in
+      record {
+        node = node;
+        of_boot = of_boot;
+        facts = start.facts;
+        is_accepted = is_accepted;
+        fits = accepted_fits (image node start.app) boot.settings.board start.facts is_accepted;
+        same_length = refl;
+        same_entry = refl;
+        within = accepted_within (image node start.app) boot.settings.board start.facts is_accepted;
+      }
 
 pub never_law : NeverLaw
 unfolding NeverLaw
-never_law list flash o settings =
-    every_boot list flash o settings (Never list flash o settings)
-    (λ (number : ℕ) (l : OneToThree number).
-    record {
-      through_usable = λ (start : Start) (k : ℕ) e by. absurd (no_start e);
-      not_below = λ (start : Start) e. absurd (no_start e);
-    })
-    (λ (size : length o ≡ 8192) (made : Choice) (m : SoundAfterMarks list flash o settings made).
-    record { through_usable = through_usable list flash o settings size m; not_below = starts_not_below list flash o settings m })
-
--- ---- what a reply says of the image
-
-pub of_image : (list flash : List ℕ) (settings : Settings) (app : App) (facts : Facts) → passing list flash settings app ≡ Yes facts
-    → (size entry : ℕ) → size ≡ facts.length → entry ≡ facts.entry → OfImage list flash settings app size entry
-unfolding AcceptedFits
-of_image list flash settings app facts p size entry same_length same_entry =
-    let accepted = passing_accepted list flash settings app facts p in
-    record {
-      facts = facts;
-      accepted = accepted;
-      fits = accepted_fits (image list flash app) settings.board facts accepted;
-      same_length = same_length;
-      same_entry = same_entry;
-      within = rw same_length (within (image list flash app) settings.board facts accepted);
-    }
+never_law boot =
+    let all =
+    every_boot boot
+    (λ (r : Result Start Refusal) (left : List ℕ).
+    ((start : Start) (k : SectorNumber) → r ≡ Ok start → start.through ≡ Some k → UsableAt k boot.otadata × UsableAt k left)
+    × ((start : Start) → r ≡ Ok start → NotBelow boot start.app))
+    (λ refusal is. (λ start k e through. absurd (no_start e), λ start e. absurd (no_start e)))
+    (λ node of_boot made sound. (usable_both boot node of_boot made sound, starts_not_below boot node of_boot made sound)) in
+    record { through_usable = all.0; not_below = all.1 }
 
 pub image_law : ImageLaw
 unfolding ImageLaw
-image_law list flash o settings start =
-    every_boot list flash o settings (λ (out : Outcome). out.reply ≡ Starts start → OfImage list flash settings start.app start.length start.entry)
-    (λ (number : ℕ) (l : OneToThree number) e. absurd (no_start e))
-    (λ (size : length o ≡ 8192) (made : Choice) (m : SoundAfterMarks list flash o settings made) e.
-    let of = passing_start list flash settings (readings_of (marked settings o)) m start e in
-    of_image list flash settings start.app of.facts of.passes start.length start.entry of.same_length of.same_entry)
-
--- ---- the number and the values of a reply
-
-view_of : (settings : Settings) (rs : List Reading) (made : Choice) → (reply_to settings rs made).answer ≡ view (reply_to settings rs made).reply
-view_of settings rs Nothing = refl
-view_of settings rs (Through k slot facts) = refl
-view_of settings rs (Factory facts) = refl
-view_of settings rs (Found slot facts) = refl
-
-pub view_law : ViewLaw
-unfolding ViewLaw
-view_law list flash o settings =
-    every_boot list flash o settings (λ (out : Outcome). out.answer ≡ view out.reply)
-    (λ (number : ℕ) (l : OneToThree number). refl)
-    (λ (size : length o ≡ 8192) (made : Choice) (m : SoundAfterMarks list flash o settings made). view_of settings (readings_of (marked settings o)) made)
+image_law boot start =
+    every_boot boot (λ (r : Result Start Refusal) (left : List ℕ). r ≡ Ok start → OfImage boot start.app start.facts.length start.facts.entry)
+    (λ refusal is e. absurd (no_start e))
+    (λ node of_boot made sound. starts_image boot node of_boot made sound start)
 
 -- ---- when a boot is refused
 
-ten : (settings : Settings) (rs : List Reading) (made : Choice) (refusal : Refusal) → (reply_to settings rs made).reply ≡ Refused refusal → refusal.number ≡ 10
-ten settings rs Nothing refusal e = ap (λ (r : Refusal). r.number) (same_refusal (sym e))
-ten settings rs (Through k slot facts) refusal e = absurd (no_start (sym e))
-ten settings rs (Factory facts) refusal e = absurd (no_start (sym e))
-ten settings rs (Found slot facts) refusal e = absurd (no_start (sym e))
+only_ten : (settings : Settings) (readings : List Reading) (made : Option Choice) (refusal : Refusal) → reply_by settings readings made ≡ Err refusal
+    → (made ≡ None) × (number_of refusal ≡ 10)
+only_ten settings readings None refusal e = (refl, ap number_of (sym (same_refusal e)))
+only_ten settings readings (Some made) refusal e = absurd (no_start (sym e))
 
-not_accepted : (list flash o : List ℕ) (settings : Settings) {P : Type 0} {c : Checked} → Tested P c → (passed_tests c ≡ true → ⊥)
-    → (refusal : Refusal) × (((by_tests list flash o settings c).reply ≡ Refused refusal) × (1 ≤ refusal.number) × (refusal.number ≤ 3))
-not_accepted list flash o settings (fails {number = number} l) n = (record { number = number; register = settings.efuse }, (refl, l.0, l.1))
-not_accepted list flash o settings (passes p) n = absurd (n refl)
+node_is : (r : Result Node Refusal) → IsOk r → (node : Node) × (r ≡ Ok node)
+node_is (Ok node) is = (node, refl)
+node_is (Err refusal) is = absurd cc
+
+-- where no node is accepted, the refusal is that of the tests
+not_accepted : (otadata : List ℕ) (r : Result Node Refusal) → (IsOk r → ⊥) → (refusal : Refusal) × ((r ≡ Err refusal) × (reply_of otadata r ≡ Err refusal))
+not_accepted otadata (Ok node) not = absurd (not refl)
+not_accepted otadata (Err refusal) not = (refusal, (refl, refl))
+
+numbered_by : (boot : Boot) (refusal : Refusal) → accepted boot ≡ Err refusal → OneToThree refusal
+numbered_by boot refusal =
+    tests_decide boot.words boot.flash (length boot.otadata) boot.settings (λ (r : Result Node Refusal). r ≡ Err refusal → OneToThree refusal)
+    (λ given numbered e. subst OneToThree (cc e) numbered)
+    (λ list listed size e. absurd cc)
 
 pub acceptance_law : AcceptanceLaw
-unfolding AcceptanceLaw boot
-acceptance_law list flash o settings =
+unfolding AcceptanceLaw boot_reply
+acceptance_law boot =
     record {
-      accepting = λ (a : Accepts list (length flash) (length o) settings) (refusal : Refusal) (e : (boot list flash o settings).reply ≡ Refused refusal).
-          ten settings (after_marks settings o) (choice list flash settings (after_marks settings o)) refusal (sym (replies list flash o settings a) ∙ e);
-      not_accepting = not_accepted list flash o settings (tests_decide list (length flash) (length o) settings);
+      accepting = λ accepts refusal e.
+          let found = node_is (accepted boot) accepts in
+          (only_ten found.0.settings (after_marks found.0 boot.otadata) (choice found.0 (after_marks found.0 boot.otadata)) refusal (sym (reply_accepted boot found.0 found.1) ∙ e)).1;
+      not_accepting = λ not.
+          let found = not_accepted boot.otadata (accepted boot) not in
+          let numbered = numbered_by boot found.0 found.1.0 in
+          (found.0, (found.1.1, numbered.0, numbered.1));
     }
 
 -- ---- what a refusal changes
 
--- only nothing bootable is refused after the tests
-nothing_chosen : (list flash o : List ℕ) (settings : Settings) (refusal : Refusal) {made : Choice} → SoundAfterMarks list flash o settings made
-    → (from_choice settings o made).reply ≡ Refused refusal → RefusalKeeps o settings refusal (from_choice settings o made).otadata
-unfolding awaiting
-nothing_chosen list flash o settings refusal nothing e =
-    let same = same_refusal e in
-    let ten = ap (λ (r : Refusal). r.number) same in
-    record {
-      register = ap (λ (r : Refusal). r.register) (sym same);
-      marks = λ (is : refusal.number ≡ 10). refl;
-      nothing = λ (not : refusal.number ≡ 10 → ⊥). absurd (not (sym ten));
-    }
-nothing_chosen list flash o settings refusal (through l u p) e = absurd (no_start (sym e))
-nothing_chosen list flash o settings refusal (by_factory p) e = absurd (no_start (sym e))
-nothing_chosen list flash o settings refusal (found p) e = absurd (no_start (sym e))
+register_kept : (settings : Settings) (r : Result Start Refusal) (refusal : Refusal) → r ≡ Err refusal → register_of settings r ≡ settings.efuse
+register_kept settings (Ok start) refusal e = absurd (no_start (sym e))
+register_kept settings (Err given) refusal e = refl
+
+-- what a refusal leaves
+record Keeps (boot : Boot) (refusal : Refusal) (left : List ℕ) : Type 0 where
+  marks : number_of refusal ≡ 10 → left ≡ marked boot.settings boot.otadata
+  nothing : number_of refusal ≢ 10 → left ≡ boot.otadata
 
 pub refusal_law : RefusalLaw
 unfolding RefusalLaw
-refusal_law list flash o settings refusal =
-    every_boot list flash o settings
-    (λ (out : Outcome). out.reply ≡ Refused refusal → RefusalKeeps o settings refusal out.otadata)
-    (λ (number : ℕ) (l : OneToThree number) (e : (refused settings number).reply ≡ Refused refusal).
-    let same = same_refusal e in
-    let n = ap (λ (r : Refusal). r.number) same in
+refusal_law boot refusal e =
+    let kept =
+    every_boot boot (λ (r : Result Start Refusal) (left : List ℕ). r ≡ Err refusal → Keeps boot refusal left)
+    (λ given is e.
+    let numbered = numbered_by boot given is in
+    let same = ap number_of (same_refusal e) in
+    record { marks = λ ten. absurd (omega (arith, numbered.1, same, ten)); nothing = λ not. refl })
+    (λ node of_boot made sound e.
+    let ten = only_ten node.settings (after_marks node boot.otadata) made refusal e in
     record {
-      register = ap (λ (r : Refusal). r.register) (sym same);
-      marks = λ (is : refusal.number ≡ 10). absurd (omega (arith, l.1));
-      nothing = λ (not : refusal.number ≡ 10 → ⊥). refl;
+      marks = λ is.
+          ap (left_with node boot.otadata) ten.0
+          ∙ ap (λ (s : Settings). marked s boot.otadata) (accepted_is boot node of_boot).same_settings;
+      nothing = λ not. absurd (not ten.1);
     })
-    (λ (size : length o ≡ 8192) (made : Choice) (m : SoundAfterMarks list flash o settings made). nothing_chosen list flash o settings refusal m)
+    e in
+    record { register = register_kept boot.settings (reply boot) refusal e; marks = kept.marks; nothing = kept.nothing }
 
 -- ---- what a boot changes
 
-other_state : {settings : Settings} {old now : State} {s t : List ℕ} → Change old now → Restates settings old now s t → OtherState s t
-other_state {old = old} {now} change r =
-    record { sequence = r.sequence; old = old; now = now; was = r.was; is = r.is; label = r.label; change = change }
+other_state : {settings : Settings} {from to : State} {before after : List ℕ} → Change from to → Restates settings from to before after → OtherState before after
+other_state {to = to} change r =
+    record { old = r.old; now = to; was = r.was; is = r.is; change = rw r.from_state change }
 
 -- by both steps: a record marked as aborted isn't new
 both_steps : {settings : Settings} {s m t : List ℕ} → KeptOr settings Pending Aborted s m → KeptOr settings New Pending m t → (t ≡ s) ⊎ OtherState s t
 both_steps (inl e) (inl f) = inl (f ∙ e)
 both_steps {t = t} (inl e) (inr r) = inr (subst (λ (x : List ℕ). OtherState x t) e (other_state (inr (refl, refl)) r))
 both_steps {s = s} (inr r) (inl f) = inr (subst (OtherState s) (sym f) (other_state (inl (refl, refl)) r))
-both_steps (inr r) (inr r') = absurd (let z : ◌≡◌ {A = ℕ} 0 1 = cc (r.is, r'.was) in omega arith)
+both_steps (inr r) (inr again) = absurd (let aborted : Aborted ≡ New = cc (r.is, again.was, again.from_state) in cc)
 
-only_states : (list flash o : List ℕ) (settings : Settings) → length o ≡ 8192 → (made : Choice) → SoundAfterMarks list flash o settings made
-    → OnlyStates o settings (from_choice settings o made).otadata
-only_states list flash o settings size made m =
-    let marked-has = marked_size settings o size in
-    record {
-      size = awaiting_size list flash settings _ (marked settings o) marked-has m ∙ sym size;
-      sectors = λ (k : ℕ) (l : k < 2). both_steps (marks settings o size k l) (awaits list flash settings _ (marked settings o) marked-has m k l);
-      without_rollback = λ (off : settings.rollback ≡ false). no_awaiting settings (marked settings o) off (used_sector made) ∙ no_marks settings o off;
-    }
+module _ (boot : Boot) (node : Node) (of_boot : accepted boot ≡ Ok node) (made : Option Choice) where
+  abbrev after : List ℕ
+  after = left_with node boot.otadata made
+
+  same_size : length after ≡ length boot.otadata
+  same_size =
+      let size = (accepted_is boot node of_boot).size in
+      left_size node boot.otadata size made ∙ sym size
+
+  state_of_sector : (k : SectorNumber) → (sector k after ≡ sector k boot.otadata) ⊎ OtherState (sector k boot.otadata) (sector k after)
+  state_of_sector k =
+      let s = sector k boot.otadata in
+      rw (left_sector node boot.otadata (accepted_is boot node of_boot).size made k)
+      (both_steps (settles node.settings s) (pends node.settings (settled node.settings s) k made))
+
+  nothing_changed : boot.settings.rollback ≡ false → after ≡ boot.otadata
+  nothing_changed off =
+      let node_off : node.settings.rollback ≡ false = ap (λ (s : Settings). s.rollback) (accepted_is boot node of_boot).same_settings ∙ off in
+      let first = take 4096 boot.otadata in
+      let second = drop 4096 boot.otadata in
+      ap₂ (λ (a b : List ℕ). a ++ b)
+      (no_pending node.settings (settled node.settings first) node_off Zero made ∙ no_settling node.settings first node_off)
+      (no_pending node.settings (settled node.settings second) node_off One made ∙ no_settling node.settings second node_off)
+      ∙ take-append-drop 4096 boot.otadata
 
 pub state_law : StateLaw
 unfolding StateLaw
-state_law list flash o settings =
-    every_boot list flash o settings (λ (out : Outcome). OnlyStates o settings out.otadata)
-    (λ (number : ℕ) (l : OneToThree number).
-    record {
-      size = refl;
-      sectors = λ (k : ℕ) (below : k < 2). inl refl;
-      without_rollback = λ (off : settings.rollback ≡ false). refl;
-    })
-    (only_states list flash o settings)
+state_law boot =
+    let all =
+    every_boot boot
+    (λ (r : Result Start Refusal) (left : List ℕ).
+    (length left ≡ length boot.otadata)
+    × ((k : SectorNumber) → (sector k left ≡ sector k boot.otadata) ⊎ OtherState (sector k boot.otadata) (sector k left))
+    × (boot.settings.rollback ≡ false → left ≡ boot.otadata))
+    (λ refusal is. (refl, λ k. inl refl, λ off. refl))
+    (λ node of_boot made sound. (same_size boot node of_boot made, state_of_sector boot node of_boot made, nothing_changed boot node of_boot made)) in
+    record { size = all.0; sectors = all.1; without_rollback = all.2 }

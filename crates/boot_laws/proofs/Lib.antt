@@ -1,5 +1,8 @@
+pub mod Marks
+pub mod Choices
+pub mod Boots
 pub mod Changes
 pub mod Laws
-pub mod PowerCut
 pub mod WithoutRollback
-pub mod Witnesses
+pub mod PowerCut
+pub mod TwoOutcomes

@@ -1,95 +1,126 @@
 -- With rollback off new and pending count as undefined: the choice and the reply are the same.
 -- Assumes nothing.
-use Prim.Native.Nat.{ℕ}
-use mathlib.Core.Path.{◌≡◌, ◌∙◌, refl, sym, ap}
-use mathlib.Core.List.{List, map}
-use lib.ListN.{get_or, get_or-map}
-use Rattle.otadata.specs.declared.Slot.{Slot}
-use Rattle.otadata.specs.declared.State.{State}
-use Rattle.otadata.specs.declared.State.TheVariants.{New, Pending, Valid, Invalid, Aborted, Undefined}
-use Rattle.otadata.specs.declared.Sequence.{Sequence}
-use Rattle.otadata.specs.declared.Verdict.{Verdict}
-use Rattle.otadata.specs.declared.Verdict.TheVariants.{Good}
-use Rattle.otadata.specs.declared.Reading.{Reading}
-use Rattle.otadata.specs.Records.{no_reading, good_verdict, usable_state, usable_verdict, sequence_in}
-use Rattle.otadata.proofs.Verdicts.{not_good_has, by_verdict}
-use Rattle.sectors.specs.Sectors.{active, readings_of}
-use Rattle.boot_choice.specs.declared.Settings.{Settings}
+use Rattle.std.proofs.Common.{◌≡◌, ℕ, zero, suc, ◌+◌, Bool, false, not, ◌&&◌, if◌then◌else◌, List, [], ◌∷◌, map, Option, Some, None, option_map, option_and_then, Ok, Err, length, take, drop, refl, sym, ap, ap₂, ◌∙◌}
+use Rattle.std.specs.Prelude.{◌==◌, is_err}
+use Rattle.std.specs.Option.{option_or}
+use Rattle.otadata.specs.declared.records.Slot.{Slot}
+use Rattle.otadata.specs.declared.states.State.{State}
+use Rattle.otadata.specs.declared.states.State.TheVariants.{New, Pending, Valid, Invalid, Aborted, Undefined}
+use Rattle.otadata.specs.State.{is_usable}
+use Rattle.otadata.specs.Record.{Reading, slot_of}
+use Rattle.sectors.specs.declared.reading.SectorNumber.{SectorNumber}
+use Rattle.sectors.specs.declared.reading.SectorNumber.TheVariants.{Zero, One}
+use Rattle.sectors.specs.Sector.{read_sector, readings, usable_sequence, highest, active}
+use Rattle.sectors.specs.Otadata.{readings_of}
+use Rattle.partitions.specs.declared.list.App.TheVariants.{OtaSlot}
+use Rattle.node.specs.declared.Settings.{Settings}
+use Rattle.node.specs.declared.Node.{Node}
+use Rattle.node.specs.Node.{passing}
 use Rattle.boot_choice.specs.declared.Choice.{Choice}
-use Rattle.boot_choice.specs.declared.Choice.TheVariants.{Nothing, Through, Factory, Found}
-use Rattle.boot_choice.specs.Choice.{through_verdict, through_record, verdict_bars, barred, candidate, choice}
-use Rattle.boot_choice.proofs.Order.{same_choice}
-use Rattle.boot.specs.Boot.{any_good, register_after, reply_to}
-use Rattle.boot_laws.specs.Laws.{counted_state, counted_verdict, counted, WithoutRollback}
-use Rattle.boot_laws.proofs.Changes.{no_marks}
-use Rattle.boot.proofs.Replies.{replies}
+use Rattle.boot_choice.specs.declared.Choice.TheVariants.{Recorded, Factory, Found}
+use Rattle.boot_choice.specs.Choice.{slots_of, through_slot, through_reading, in_order, through_active, factory, is_barred_by, is_barred, candidate, first_from, last_search, choice}
+use Rattle.boot.specs.Boot.{first_of, second_of, hold_no_good, register_after, reply_by}
+use Rattle.boot_laws.specs.Laws.{sector, counted_state, counted, WithoutRollback}
+use Rattle.boot_laws.proofs.Boots.{second_is, accepted_is, reply_accepted}
+use Rattle.boot_laws.proofs.Changes.{no_settling}
 
 -- ---- one record
 
-usable_state_lem : (s : State) → usable_state (counted_state s) ≡ usable_state s
-usable_state_lem New = refl
-usable_state_lem Pending = refl
-usable_state_lem Valid = refl
-usable_state_lem Invalid = refl
-usable_state_lem Aborted = refl
-usable_state_lem Undefined = refl
+usable_state : (state : State) → is_usable (counted_state state) ≡ is_usable state
+usable_state New = refl
+usable_state Pending = refl
+usable_state Valid = refl
+usable_state Invalid = refl
+usable_state Aborted = refl
+usable_state Undefined = refl
 
--- what is the same of a good record is the same of every record: another one is left as it is
-same_of : {A : Type 0} (f : Verdict → A) → ((q : Sequence) (s : State) → f (Good q (counted_state s)) ≡ f (Good q s)) → (v : Verdict) → f (counted_verdict v) ≡ f v
-same_of f good = by_verdict (λ (v : Verdict). f (counted_verdict v) ≡ f v) (λ v n. ap f (not_good_has _ v v n)) good
+same_sequence : (r : Reading) → usable_sequence (counted r) ≡ usable_sequence r
+same_sequence (Ok r) = ap (λ (usable : Bool). if usable then Some r.sequence else None) (usable_state r.state)
+same_sequence (Err fault) = refl
 
-usable_verdict_lem : (v : Verdict) → usable_verdict (counted_verdict v) ≡ usable_verdict v
-usable_verdict_lem = same_of usable_verdict (λ q s. usable_state_lem s)
+same_bars : (n : ℕ) (slot : Slot) (r : Reading) → is_barred_by n slot (counted r) ≡ is_barred_by n slot r
+same_bars n slot (Ok r) = ap (λ (usable : Bool). not usable && ((slot_of n r.sequence).0 == slot.0)) (usable_state r.state)
+same_bars n slot (Err fault) = refl
 
-same_sequence : (v : Verdict) → sequence_in (counted_verdict v) ≡ sequence_in v
-same_sequence = same_of sequence_in (λ q s. refl)
-
-same_good : (v : Verdict) → good_verdict (counted_verdict v) ≡ good_verdict v
-same_good = same_of good_verdict (λ q s. refl)
-
-same_bars : (n : ℕ) (slot : Slot) (v : Verdict) → verdict_bars n slot (counted_verdict v) ≡ verdict_bars n slot v
-same_bars n slot = same_of (verdict_bars n slot) (λ q s. simp (usable_state_lem s))
+same_err : (r : Reading) → is_err (counted r) ≡ is_err r
+same_err (Ok r) = refl
+same_err (Err fault) = refl
 
 -- ---- the two readings
 
-module _ (list flash : List ℕ) (settings : Settings) (rs : List Reading) where
-  at : (k : ℕ) → get_or (map counted rs) k no_reading ≡ counted (get_or rs k no_reading)
-  unfolding no_reading
-  at k = get_or-map counted rs k no_reading
+then_same : {A B : Type 0} (f g : A → Option B) → ((x : A) → f x ≡ g x) → (o : Option A) → option_and_then f o ≡ option_and_then g o
+then_same f g same None = refl
+then_same f g same (Some x) = same x
 
-  same_active : active (map counted rs) ≡ active rs
-  unfolding active
-  same_active = simp (at, usable_verdict_lem, same_sequence)
+module _ (node : Node) (first second : Reading) where
+  abbrev both : List Reading
+  both = first ∷ second ∷ []
 
-  same_verdict : (k : ℕ) (v : Verdict) → through_verdict list flash settings k (counted_verdict v) ≡ through_verdict list flash settings k v
-  same_verdict k = same_of (through_verdict list flash settings k) (λ q s. refl)
+  same_through : (k : SectorNumber) (r : Reading) → through_reading node (k, counted r) ≡ through_reading node (k, r)
+  unfolding through_reading
+  same_through k r = ap (option_and_then (λ q. through_slot node k (slot_of (slots_of node) q))) (same_sequence r)
 
-  same_record : (k : ℕ) → through_record list flash settings k (get_or (map counted rs) k no_reading) ≡ through_record list flash settings k (get_or rs k no_reading)
-  unfolding through_record
-  same_record k = simp (at, usable_verdict_lem, same_verdict)
+  same_active : active (map counted both) ≡ active both
+  same_active = ap₂ highest (same_sequence first) (same_sequence second)
 
-  same_candidate : (slot : Slot) → candidate list flash settings (map counted rs) slot ≡ candidate list flash settings rs slot
-  unfolding candidate barred
-  same_candidate slot = simp (at, same_bars)
+  same_order : (k : SectorNumber) → in_order node (counted first) (counted second) k ≡ in_order node first second k
+  same_order Zero = ap₂ option_or (same_through Zero first) (same_through One second)
+  same_order One = ap₂ option_or (same_through One second) (same_through Zero first)
 
-  counted_choice : choice list flash settings (map counted rs) ≡ choice list flash settings rs
-  counted_choice = same_choice list flash settings settings (map counted rs) rs same_active same_record refl same_candidate
+  same_through_active : through_active node (map counted both) ≡ through_active node both
+  unfolding through_active
+  same_through_active =
+      ap (option_and_then (in_order node (counted first) (counted second))) same_active
+      ∙ then_same (in_order node (counted first) (counted second)) (in_order node first second) same_order (active both)
 
-  same_any : any_good (map counted rs) ≡ any_good rs
-  unfolding any_good
-  same_any = simp (at, same_good)
+  same_barred : (slot : Slot) → is_barred (slots_of node) (map counted both) slot ≡ is_barred (slots_of node) both slot
+  unfolding is_barred
+  same_barred slot = simp (same_bars (slots_of node) slot first, same_bars (slots_of node) slot second)
 
-  same_reply : (c : Choice) → (reply_to settings (map counted rs) c).reply ≡ (reply_to settings rs c).reply
-  unfolding register_after
-  same_reply Nothing = refl
-  same_reply (Through k slot facts) = refl
-  same_reply (Factory facts) = refl
-  same_reply (Found slot facts) = simp same_any
+  same_candidate : (slot : Slot) → candidate node (map counted both) slot ≡ candidate node both slot
+  unfolding candidate
+  same_candidate slot = ap (λ (barred : Bool). if barred then None else option_map (Found slot) (passing node (OtaSlot slot))) (same_barred slot)
+
+  same_search : (s k : ℕ) → first_from node (map counted both) s k ≡ first_from node both s k
+  unfolding first_from
+  same_search s zero = refl
+  same_search s (suc k) = ap₂ option_or (same_candidate (record { 0 = s })) (same_search (s + 1) k)
+
+  same_choice : choice node (map counted both) ≡ choice node both
+  unfolding choice last_search
+  same_choice = ap₂ option_or same_through_active (ap (option_or (factory node)) (same_search 0 (slots_of node)))
+
+  same_no_good : hold_no_good (map counted both) ≡ hold_no_good both
+  same_no_good = simp (same_err first, same_err second)
+
+  same_register : (settings : Settings) (made : Choice) → register_after settings (map counted both) made ≡ register_after settings both made
+  same_register settings (Recorded k slot facts) = refl
+  same_register settings (Factory facts) = refl
+  same_register settings (Found slot facts) = simp same_no_good
+
+  same_reply : (settings : Settings) (made : Option Choice) → reply_by settings (map counted both) made ≡ reply_by settings both made
+  same_reply settings None = refl
+  same_reply settings (Some (Recorded k slot facts)) = refl
+  same_reply settings (Some (Factory facts)) = refl
+  same_reply settings (Some (Found slot facts)) =
+      ap (λ (register : ℕ). Ok (record { app = OtaSlot slot; through = None; register = register; facts = facts })) (same_register settings (Found slot facts))
+
+-- without rollback step 1 leaves both sectors alone
+unmarked : (settings : Settings) (otadata : List ℕ) → length otadata ≡ 8192 → settings.rollback ≡ false
+    → readings (first_of settings otadata) (second_of settings otadata) ≡ readings_of otadata
+unmarked settings otadata size off =
+    ap₂ readings (no_settling settings (take 4096 otadata) off) (no_settling settings (drop 4096 otadata) off ∙ sym (second_is otadata size))
 
 pub without_rollback : WithoutRollback
 unfolding WithoutRollback
-without_rollback list flash o settings off accepts =
-    let rs = readings_of o in
-    replies list flash o settings accepts
-    ∙ ap (λ (x : List ℕ). (reply_to settings (readings_of x) (choice list flash settings (readings_of x))).reply) (no_marks settings o off)
-    ∙ sym (same_reply list flash settings rs (choice list flash settings (map counted rs)) ∙ ap (λ (c : Choice). (reply_to settings rs c).reply) (counted_choice list flash settings rs))
+without_rollback boot node off accepts =
+    let given = accepted_is boot node accepts in
+    let first = read_sector (sector Zero boot.otadata) in
+    let second = read_sector (sector One boot.otadata) in
+    let node_off : node.settings.rollback ≡ false = ap (λ (s : Settings). s.rollback) given.same_settings ∙ off in
+    let same_made = same_choice node first second in
+    reply_accepted boot node accepts
+    ∙ ap (λ (rs : List Reading). reply_by node.settings rs (choice node rs)) (unmarked node.settings boot.otadata given.size node_off)
+    ∙ ap (λ (s : Settings). reply_by s (first ∷ second ∷ []) (choice node (first ∷ second ∷ []))) given.same_settings
+    ∙ ap (reply_by boot.settings (first ∷ second ∷ [])) (sym same_made)
+    ∙ sym (same_reply node first second boot.settings (choice node (map counted (first ∷ second ∷ []))))

@@ -1,3 +1,1 @@
-pub mod Answers
-pub mod Replies
-pub mod Starts
+mod Starts

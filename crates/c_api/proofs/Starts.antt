@@ -1,95 +1,56 @@
--- The reply of boot as C gets it, and that the sector and the length of a start fit their words.
--- Assumes nothing.
-use Prim.Native.Nat.{ℕ, ◌<◌, ◌≤◌}
-use mathlib.Core.Path.{◌≡◌, ◌∙◌, refl, sym, ap}
-use mathlib.Core.List.{List, [], ◌∷◌}
-use native.Mathlib.Omega.{arith}
-use lib.ListN.{length}
-use Rattle.otadata.specs.declared.Reading.{Reading}
-use Rattle.otadata.specs.declared.Slot.{Slot}
-use Rattle.sectors.specs.declared.Holder.TheVariants.{Sector}
-use Rattle.partitions.specs.declared.App.TheVariants.{Factory as FactoryApp, OtaSlot}
-use Rattle.partitions.specs.declared.Checked.{Checked}
-use Rattle.partitions.specs.declared.Checked.TheVariants.{Refused as NotAccepted, Accepted}
-use Rattle.partitions.specs.PartitionList.{max_flash}
-use Rattle.boot_choice.specs.declared.Settings.{Settings}
-use Rattle.boot_choice.specs.declared.Choice.{Choice}
-use Rattle.boot_choice.specs.declared.Choice.TheVariants.{Nothing, Through, Factory, Found}
-use Rattle.boot_choice.specs.Acceptance.{accepted}
-use Rattle.boot_choice.specs.Choice.{image, choice}
-use Rattle.boot.specs.declared.Refusal.{Refusal}
-use Rattle.sectors.specs.Sectors.{readings_of}
+-- The length of an app's image as C gets it: a flash has at most 2 ^ 24 bytes, so that the length of an image in it fits into 32 bits.
+use Rattle.std.proofs.Common.{◌≡◌, refl, ℕ, ◌≤◌, Bool, true, false, List, [], Option, Some, None, unwrap_or, option_map, Result, Ok, length, arith}
+use Rattle.partitions.specs.declared.TheConstants.{MAX_FLASH}
+use Rattle.partitions.specs.declared.entry.Entry.{Entry}
+use Rattle.partitions.specs.declared.list.App.{App}
+use Rattle.partitions.specs.Entry.{entry_bytes}
+use Rattle.partitions.specs.PartitionList.{Partitions, subtype_of, entry_with, image_of, is_right, list_of}
+use Rattle.partitions.proofs.ListRules.{part_fits}
+use Rattle.node.specs.declared.Settings.{Settings}
+use Rattle.node.specs.declared.Node.{Node}
+use Rattle.node.specs.declared.refusal.Refusal.{Refusal}
+use Rattle.node.specs.Node.{image}
 use Rattle.boot.specs.declared.Start.{Start}
-use Rattle.boot.specs.declared.Reply.{Reply}
-use Rattle.boot.specs.declared.Reply.TheVariants.{Refused, Starts}
-use Rattle.otadata.specs.Answers.{viewed, outcome as boot_outcome}
-use Rattle.boot.specs.Boot.{view, sector_value, start_values, marked, used_sector, reply_to, from_marks, by_tests, boot, Outcome as Boot-as-Outcome}
-use Rattle.partitions.proofs.EntryParts.{part_fits}
-use Rattle.app_image.proofs.Acceptance.{within}
-use Rattle.boot.proofs.ChoiceLaws.{passing_accepted, choice_sound}
-use Rattle.boot.proofs.Replies.{no_start, passing_start, one_of_two}
-use Rattle.c_api.specs.Interface.{answer, outcome, of_call}
+use Rattle.boot.specs.Boot.{boot_reply}
+use Rattle.boot_laws.specs.Laws.{Boot, accepted, ImageLaw}
+use Rattle.boot_laws.proofs.Boots.{tests_decide}
+use Rattle.boot_laws.proofs.Laws.{image_law}
 
--- ---- the sector and the length of a start
+-- a list speaks of the flash that it was accepted for
+same_flash : (words flash : List ℕ) (list : Partitions) → list_of words flash ≡ Ok list → list.flash ≡ flash
+unfolding list_of
+same_flash words flash list accepts = by (is_right words (length flash)) refl
+  where
+    by : (right : Bool) → is_right words (length flash) ≡ right → list.flash ≡ flash
+    by true right = grind (arith, accepts, right)
+    by false right = grind (arith, accepts, right)
 
--- a choice that starts through a sector came through that sector
-through_used : (settings : Settings) (rs : List Reading) (made : Choice) (start : Start) → (reply_to settings rs made).reply ≡ Starts start → used_sector made ≡ start.through
-through_used settings rs Nothing start e = absurd (let z : ◌≡◌ {A = ℕ} 0 1 = cc in omega arith)
-through_used settings rs (Through k slot facts) start e = cc
-through_used settings rs (Factory facts) start e = cc
-through_used settings rs (Found slot facts) start e = cc
+-- the part of an app
+part_of_app : (words flash : List ℕ) (list : Partitions) (found : Option Entry) → list_of words flash ≡ Ok list
+    → length (unwrap_or (option_map (λ e. entry_bytes e flash) found) []) ≤ MAX_FLASH
+part_of_app words flash list None accepts = omega arith
+part_of_app words flash list (Some e) accepts = part_fits words flash list e accepts
 
-module _ (list flash o : List ℕ) (settings : Settings) where
-  abbrev readings : List Reading
-  readings = readings_of (marked settings o)
+image_fits : (words flash : List ℕ) (list : Partitions) (settings : Settings) (app : App) → list_of words flash ≡ Ok list
+    → length (image (record { list = list; settings = settings }) app) ≤ MAX_FLASH
+unfolding image_of
+image_fits words flash list settings app accepts =
+    rw (same_flash words flash list accepts) (part_of_app words flash list (entry_with (subtype_of app) list.entries) accepts)
 
-  abbrev made : Choice
-  made = choice list flash settings readings
+same_ok : {x y : Node} → ◌≡◌ {A = Result Node Refusal} (Ok x) (Ok y) → x ≡ y
+same_ok e = cc
 
-  -- a boot that starts an app has passed the tests
-  from_choice : (c : Checked) (start : Start) → (by_tests list flash o settings c).reply ≡ Starts start → (reply_to settings readings made).reply ≡ Starts start
-  unfolding from_marks
-  from_choice (NotAccepted number) start e = absurd (no_start e)
-  from_choice (Accepted listing) start e = e
+node_fits : (boot : Boot) (node : Node) (app : App) → accepted boot ≡ Ok node → length (image node app) ≤ MAX_FLASH
+node_fits boot node app =
+    tests_decide boot.words boot.flash (length boot.otadata) boot.settings
+    (λ (r : Result Node Refusal). r ≡ Ok node → length (image node app) ≤ MAX_FLASH)
+    (λ refusal numbered is. absurd cc)
+    (λ list listed size is. rw (← same_ok is) (image_fits boot.words boot.flash list boot.settings app listed))
 
-  module _ (r : Reply) (left : List ℕ) (is : boot_outcome (viewed view r) left ≡ boot list flash o settings) (start : Start) (e : r ≡ Starts start) where
-    chosen : (reply_to settings readings made).reply ≡ Starts start
-    unfolding boot
-    chosen = from_choice (accepted list (length flash) (length o) settings) start (ap (λ (b : Boot-as-Outcome). b.reply) (sym is) ∙ e)
-
-    pub one_of_two_sectors : (k : ℕ) → start.through ≡ Sector k → k < 2
-    one_of_two_sectors k through =
-        one_of_two list flash settings readings made refl _ refl k (through_used settings readings made start chosen ∙ through)
-
-    pub length_fits : start.length ≤ max_flash
-    length_fits =
-        let of = passing_start list flash settings readings (choice_sound list flash settings readings) start chosen in
-        let accepted = passing_accepted list flash settings start.app of.facts of.passes in
-        omega (
-          arith,
-          of.same_length,
-          within (image list flash start.app) settings.board of.facts accepted,
-          part_fits list (record { place = (0, 0); content = flash }) start.app,
-        )
-
--- ---- the reply, with the settings that the arguments stand for
-
-module _ (list flash o : List ℕ) (settings : Settings) (r : Reply) (left : List ℕ) (is : boot_outcome (viewed view r) left ≡ boot list flash o settings)
-    (given : Settings) (same : settings ≡ given) where
-  pub boot_refused : (refusal : Refusal) → r ≡ Refused refusal
-      → outcome (answer refusal.number (0 ∷ 0 ∷ 2 ∷ refusal.register ∷ 0 ∷ 0 ∷ [])) left ≡ of_call (boot list flash o given)
-  boot_refused refusal e = simp (← same, ← is, e)
-
-  pub boot_starts : (start : Start) → r ≡ Starts start → (words : List ℕ) → words ≡ start_values start
-      → outcome (answer 0 words) left ≡ of_call (boot list flash o given)
-  boot_starts start e words w = simp (← same, ← is, e, w)
-
--- ---- the words of a start
-
-module _ (start : Start) (sector : ℕ) (named : sector ≡ sector_value start.through) where
-  pub factory-words : start.app ≡ FactoryApp → 1 ∷ 0 ∷ sector ∷ start.register ∷ start.length ∷ start.entry ∷ [] ≡ start_values start
-  factory-words e = simp (e, named)
-
-  pub slot-words : (slot : Slot) → start.app ≡ OtaSlot slot
-      → 2 ∷ slot.0 ∷ sector ∷ start.register ∷ start.length ∷ start.entry ∷ [] ≡ start_values start
-  slot-words slot e = simp (e, named)
+pub length_fits : (words flash otadata : List ℕ) (settings : Settings) (start : Start)
+    → boot_reply words flash otadata settings ≡ Ok start → start.facts.length ≤ MAX_FLASH
+unfolding ImageLaw
+length_fits words flash otadata settings start starts =
+    let boot : Boot = record { words = words; flash = flash; otadata = otadata; settings = settings } in
+    let of = image_law boot start starts in
+    omega (arith, of.within, node_fits boot of.node start.app of.of_boot)

@@ -1,90 +1,64 @@
-// Records: the check word, making one, reading a sector, and the active record.
-ghost use Rattle.std.specs.Prelude.{◌≡◌, length};
-ghost use Rattle.otadata.specs.Words.{check_word};
-ghost use Rattle.otadata.specs.Records.{made};
-ghost use Rattle.sectors.specs.Sectors.{read_sector, part, active_part};
-ghost use Rattle.c_api.specs.Interface.{answer, to_c, made_view, active_view};
+//! Records: the check word, making one, reading a sector, and the active record.
+ghost use Rattle.std.specs.Prelude.{◌≡◌, map};
+ghost use Rattle.otadata.specs.Answer.{answer_of};
+ghost use Rattle.otadata.specs.CheckWord.{check_word};
+ghost use Rattle.otadata.specs.Record.{made};
+ghost use Rattle.sectors.specs.Part.{part_of};
+ghost use Rattle.sectors.specs.Sector.{read_sector, active_part};
+ghost use Rattle.c_api.specs.Interface.{answer, to_c, made_answer, active_answer};
 
-use otadata::{DONE, RECORD_SIZE, Sequence, Verdict, check_word, make};
-use sectors::{WRONG_SIZE, active_record, read_sector};
+use otadata::{RECORD_SIZE, Sequence, check_word, check_words, make, number_of};
+use sectors::{active_record, read_sector};
 
-// The check word of a sequence.
+/// The check word of a sequence.
 pub fn ota_check_word(sequence: u32) -> u32
     ensures { result ≡ check_word sequence }
 {
     check_word(Sequence(sequence))
 }
 
-// Makes a record: 0, or 17 and 32 zero bytes.
+/// Puts the check word of each sequence in its place, and returns 0.
+pub fn ota_check_words(sequences: &mut [u32]) -> u32
+    ensures { (result ≡ 0) × (sequences.new ≡ map check_word sequences.old) }
+{
+    check_words(sequences);
+    0
+}
+
+/// Makes a record: 0, or 17 and 32 zero bytes.
 pub fn ota_make_record(
     sequence: u32,
     label: &[u8; 20],
     state: u32,
-    rec: &mut [u8; RECORD_SIZE],
+    bytes: &mut [u8; RECORD_SIZE],
 ) -> u32
-    ensures { answer result rec.new ≡ made_view (made (record { 0 = sequence }) label.now state) }
+    ensures { answer result bytes.new ≡ made_answer (made (record { 0 = sequence }) label.now state) }
 {
     let made = make(Sequence(sequence), *label, state);
-    let bytes = made.rec;
-    *rec = bytes;
-    made.number
+    *bytes = made.unwrap_or([0; RECORD_SIZE]);
+    number_of(made)
 }
 
-// Reads a sector: 0 with 1, the sequence and the state word of a good record, or with 2 for blank, 3 for a bad sequence, 4 for a bad check
-// word, 5 for a bad state; 2 for a wrong size.
+/// Reads a sector: 0 with 1, the sequence and the state word of a good record, or with 2 for blank, 3 for a bad sequence, 4 for a bad
+/// check word, 5 for a bad state; 2 for a wrong size.
 pub fn ota_read_sector(sector: &[u8], out: &mut [u32; 3]) -> u32
-    ensures { answer result out.new ≡ to_c 3 (read_sector sector.now).answer }
+    ensures { answer result out.new ≡ to_c 3 (answer_of (read_sector sector.now)) }
 {
     let reading = read_sector(sector);
-    let verdict = reading.verdict;
-    match verdict {
-        Verdict::WrongSize => {
-            *out = [0; 3];
-            WRONG_SIZE
-        }
-        Verdict::Blank => {
-            *out = [2, 0, 0];
-            DONE
-        }
-        Verdict::BadSequence => {
-            *out = [3, 0, 0];
-            DONE
-        }
-        Verdict::BadCheck => {
-            *out = [4, 0, 0];
-            DONE
-        }
-        Verdict::BadState => {
-            *out = [5, 0, 0];
-            DONE
-        }
-        Verdict::Good(sequence, state) => {
-            *out = [1, sequence.0, state.word()];
-            DONE
-        }
-    }
+    *out = match reading {
+        Ok(record) => [1, record.sequence.0, record.state.word()],
+        Err(fault) => [fault.code().unwrap_or(0), 0, 0],
+    };
+    number_of(reading)
 }
 
-// Copies the active record: 32, or 0 for none.
-pub fn ota_active<'a>(first: &'a [u8], second: &'a [u8], rec: &mut [u8; RECORD_SIZE]) -> u32
-    ensures { answer result rec.new ≡ active_view (active_part (part first.entry) (part second.entry)).content rec.old }
+/// Copies the active record: 32, or 0 for none.
+pub fn ota_active<'a>(first: &'a [u8], second: &'a [u8], bytes: &mut [u8; RECORD_SIZE]) -> u32
+    ensures { answer result bytes.new ≡ active_answer (active_part (part_of first.entry) (part_of second.entry)).content bytes.old }
 {
-    let active = active_record(first, second);
-    if active.len() != RECORD_SIZE {
+    let Ok(active) = active_record(first, second).try_into() else {
         return 0;
-    }
-    *rec = copied(active);
+    };
+    *bytes = active;
     32
-}
-
-// The bytes of a record.
-fn copied(bytes: &[u8]) -> [u8; RECORD_SIZE]
-    requires { length bytes.now ≡ 32 }
-    ensures { result ≡ bytes.now }
-{
-    let mut rec = [0u8; RECORD_SIZE];
-    for i in 0..RECORD_SIZE {
-        rec[i] = bytes[i];
-    }
-    rec
 }

@@ -1,19 +1,25 @@
-// Rewriting a sector, one store at a time or whole.
+//! Rewriting a sector, one store at a time or whole.
 ghost use Rattle.std.specs.Prelude.{◌≡◌};
-ghost use Rattle.sectors.specs.Sectors.{reply, single_store, rewrite};
+ghost use Rattle.std.specs.Result.{result_unwrap_or};
+ghost use Rattle.otadata.specs.Number.{reply_number};
+ghost use Rattle.sectors.specs.Answer.{number_of};
+ghost use Rattle.sectors.specs.Rewrite.{single_store, rewrite};
 
+use otadata::number_of;
 use sectors::{rewrite, store};
 
-// Store m of a rewrite: 0, 2 or 12.
-pub fn ota_store(sector: &mut [u8], rec: &[u8], m: usize) -> u32
-    ensures { reply result sector.new ≡ single_store sector.old rec.now m }
+/// Store `m` of a rewrite: 0, or 2 for a wrong size, or 12 for no such store.
+pub fn ota_store(sector: &mut [u8], bytes: &[u8], m: usize) -> u32
+    ensures number { result ≡ reply_number number_of (single_store sector.old bytes.now m) }
+    ensures bytes { sector.new ≡ result_unwrap_or (single_store sector.old bytes.now m) sector.old }
 {
-    store(sector, rec, m)
+    number_of(store(sector, bytes, m))
 }
 
-// A whole rewrite: 0 or 2.
-pub fn ota_rewrite(sector: &mut [u8], rec: &[u8]) -> u32
-    ensures { reply result sector.new ≡ rewrite sector.old rec.now }
+/// A whole rewrite: 0, or 2 for a wrong size.
+pub fn ota_rewrite(sector: &mut [u8], bytes: &[u8]) -> u32
+    ensures number { result ≡ reply_number number_of (rewrite sector.old bytes.now) }
+    ensures bytes { sector.new ≡ result_unwrap_or (rewrite sector.old bytes.now) sector.old }
 {
-    rewrite(sector, rec)
+    number_of(rewrite(sector, bytes))
 }

@@ -1,19 +1,24 @@
-// Rewriting a sector, one store at a time or whole.
+//! Rewriting a sector, one store at a time or whole.
 ghost use Rattle.std.specs.Prelude.{◌≡◌};
-ghost use Rattle.sectors.specs.Sectors.{reply, single_store, rewrite};
+ghost use Rattle.std.specs.Result.{result_unwrap_or};
+ghost use Rattle.otadata.specs.Number.{reply_number};
+ghost use Rattle.sectors.specs.Answer.{number_of};
+ghost use Rattle.sectors.specs.Rewrite.{single_store, rewrite};
 
-// Store m of a rewrite: 0, 2 or 12.
+/// Store `m` of a rewrite: 0, or 2 for a wrong size, or 12 for no such store.
 #[unsafe(no_mangle)]
-pub extern "C" fn ota_store(sector: &mut [u8], rec: &[u8], m: usize) -> u32
-    ensures { reply result sector.new ≡ single_store sector.old rec.now m }
+pub extern "C" fn ota_store(sector: &mut [u8], bytes: &[u8], m: usize) -> u32
+    ensures number { result ≡ reply_number number_of (single_store sector.old bytes.now m) }
+    ensures bytes { sector.new ≡ result_unwrap_or (single_store sector.old bytes.now m) sector.old }
 {
-    c_api::ota_store(sector, rec, m)
+    c_api::ota_store(sector, bytes, m)
 }
 
-// A whole rewrite: 0 or 2.
+/// A whole rewrite: 0, or 2 for a wrong size.
 #[unsafe(no_mangle)]
-pub extern "C" fn ota_rewrite(sector: &mut [u8], rec: &[u8]) -> u32
-    ensures { reply result sector.new ≡ rewrite sector.old rec.now }
+pub extern "C" fn ota_rewrite(sector: &mut [u8], bytes: &[u8]) -> u32
+    ensures number { result ≡ reply_number number_of (rewrite sector.old bytes.now) }
+    ensures bytes { sector.new ≡ result_unwrap_or (rewrite sector.old bytes.now) sector.old }
 {
-    c_api::ota_rewrite(sector, rec)
+    c_api::ota_rewrite(sector, bytes)
 }

@@ -1,131 +1,122 @@
--- The laws of the reader: exactly one verdict holds of any bytes, a record is good exactly where the verdict is, and the answer is its view.
--- Assumes nothing.
-use Prim.Native.Nat.{ℕ}
-use mathlib.Core.Path.{◌≡◌, ◌∙◌, refl, sym, ap, ap₂, subst}
-use mathlib.Core.Bool.{true, false, not}
-use mathlib.Core.List.{List, [], ◌∷◌}
-use mathlib.Core.Logic.{⊎_elim}
-use lib.Dec.{eqb}
-use lib.ListN.{length, replicate}
-use borrow.Author.Tests.{eqb-true, eqb-false}
-use Rattle.otadata.specs.declared.Verdict.{Verdict}
-use Rattle.otadata.specs.declared.Verdict.TheVariants.{WrongSize, Blank, BadSequence, BadCheck, BadState, Good}
-use Rattle.otadata.specs.declared.Reading.{Reading}
-use Rattle.otadata.specs.Answers.{Answered, viewed}
-use Rattle.otadata.specs.Words.{check_word}
-use Rattle.otadata.specs.Records.{sequence_field, label_field, state_field, check_field, is_state, state_of, is_sequence, good, all_ff, not_good, good_record, read, view, reading, if_good, good_verdict}
-use Rattle.otadata.specs.Verdicts.{HoldsOf, VerdictLaw, GoodLaw, ViewLaw}
-use Rattle.otadata.proofs.Booleans.{true_or_false, true_is_not_false, by_test, by_not}
-use Rattle.otadata.proofs.Erased.{blank_is, written}
-use Rattle.otadata.proofs.Goodness.{is_good, wrong_size, is_blank, bad_sequence, bad_check, bad_state, all_right}
-use Rattle.otadata.proofs.States.{word_of_state, state_of-word}
+-- Of any bytes exactly one answer holds, the reader's; a record is good exactly where the reader gives one; and the answer's number and values.
+use Rattle.std.proofs.Common.{◌≡◌, ◌≢◌, ℕ, zero, suc, ◌==◌, Bool, true, false, not, ◌&&◌, if◌then◌else◌, List, [], ◌∷◌, length, is_ok, is_some, Ok, Err, Some, None, Option, refl, sym, ap, ◌∙◌, arith, eqb-true}
+use Rattle.std.specs.Prelude.{replicate}
+use Rattle.std.proofs.lemmas.Bool.Decides.{nat_tests}
+use Rattle.otadata.specs.declared.records.Record.{Record}
+use Rattle.otadata.specs.declared.records.Fault.{Fault}
+use Rattle.otadata.specs.declared.records.Fault.TheVariants.{WrongSize, Blank, BadSequence, BadCheckWord, BadState}
+use Rattle.otadata.specs.declared.states.State.{State}
+use Rattle.otadata.specs.CheckWord.{check_word}
+use Rattle.otadata.specs.State.{state_of}
+use Rattle.otadata.specs.Record.{Reading, read, is_good, is_blank, is_sequence, sequence_field, check_field, state_field, with_state}
+use Rattle.otadata.specs.Answer.{answer_of}
+use Rattle.otadata.specs.Verdicts.{HoldsOf, VerdictLaw, GoodLaw, answer_to, ViewLaw}
+use Rattle.otadata.proofs.RoundTrip.{not_blank, read-good, passed, with_state-ok, word_of-state_of}
 
--- ---- what holds of the answer
+-- ---- blank bytes
 
--- a reading with that verdict: the label is the record's own where it is good, else zero
-abbrev pub labelled : List ℕ → Verdict → Reading
-labelled rec v = record { verdict = v; label = if_good (λ q s. label_field rec) (replicate 20 0) v }
+all_erased : (n : ℕ) (bytes : List ℕ) → length bytes ≡ n → is_blank bytes ≡ true → bytes ≡ replicate n 0xFF
+all_erased zero [] size blank = refl
+all_erased zero (byte ∷ bytes) size blank = absurd (omega (arith, size))
+all_erased (suc n) [] size blank = absurd (omega (arith, size))
+all_erased (suc n) (byte ∷ bytes) size blank =
+    let first : byte ≡ 0xFF = grind (arith, nat_tests) in
+    let rest : bytes ≡ replicate n 0xFF = all_erased n bytes (omega (arith, size)) (grind (arith, nat_tests)) in
+    rw (first, rest) refl
 
-record Found (rec : List ℕ) (a : Answered Reading) : Type 0 where
-  holds : HoldsOf rec a.reply.verdict
-  same_good : good_verdict a.reply.verdict ≡ good rec
-  shape : a ≡ viewed view (labelled rec a.reply.verdict)
+written : (bytes : List ℕ) → length bytes ≡ 32 → bytes ≢ replicate 32 0xFF → is_blank bytes ≡ false
+written bytes size other = grind (arith, nat_tests, all_erased 32 bytes size)
 
-module _ (rec : List ℕ) where
-  of_size : eqb (length rec) 32 ≡ false → Found rec (not_good 2 [] WrongSize)
-  unfolding good
-  of_size n = record { holds = eqb-false _ _ n; same_good = simp n; shape = refl }
-
-  module _ (sized : eqb (length rec) 32 ≡ true) where
-    of_blank : all_ff rec ≡ true → Found rec (not_good 0 (2 ∷ []) Blank)
-    unfolding good
-    of_blank e =
-        let is = blank_is rec (eqb-true _ _ sized) e in
-        record { holds = is; same_good = subst (λ (x : List ℕ). false ≡ good x) (sym is) refl; shape = refl }
-
-    of_sequence : all_ff rec ≡ false → is_sequence (sequence_field rec) ≡ false → Found rec (not_good 0 (3 ∷ []) BadSequence)
-    unfolding all_ff good
-    of_sequence e n =
-        let not-blank : rec ≡ replicate 32 255 → ⊥ = λ (is : rec ≡ replicate 32 255). true_is_not_false (all_ff rec) (ap all_ff is) e in
-        record { holds = (eqb-true _ _ sized, not-blank, n); same_good = simp (sized, n); shape = refl }
-
-    module _ (range : is_sequence (sequence_field rec) ≡ true) where
-      of_check : eqb (check_field rec) (check_word (sequence_field rec)) ≡ false → Found rec (not_good 0 (4 ∷ []) BadCheck)
-      unfolding good
-      of_check n =
-          record {
-            holds = (eqb-true _ _ sized, range, eqb-false _ _ n);
-            same_good = simp (sized, range, n);
-            shape = refl;
-          }
-
-      module _ (check : eqb (check_field rec) (check_word (sequence_field rec)) ≡ true) where
-        of_state : is_state (state_field rec) ≡ false → Found rec (not_good 0 (5 ∷ []) BadState)
-        unfolding good
-        of_state n =
-            record {
-              holds = (eqb-true _ _ sized, range, eqb-true _ _ check, n);
-              same_good = simp (sized, range, check, n);
-              shape = refl;
-            }
-
-        of_good : is_state (state_field rec) ≡ true → Found rec (good_record rec)
-        unfolding good
-        of_good state =
-            let word = word_of_state (state_field rec) state in
-            let is : good rec ≡ true = simp (sized, range, check, state) in
-            record { holds = (is, refl, word); same_good = sym is; shape = simp word }
-
-found : (rec : List ℕ) → Found rec (read rec)
+erased-read : read (replicate 32 0xFF) ≡ Err Blank
 unfolding read
-found rec =
-    by_not (Found rec) (eqb (length rec) 32) (of_size rec)
-    (λ (sized : eqb (length rec) 32 ≡ true).
-    by_test (Found rec) (all_ff rec) (of_blank rec sized)
-    (λ (e : all_ff rec ≡ false).
-    by_not (Found rec) (is_sequence (sequence_field rec)) (of_sequence rec sized e)
-    (λ (range : is_sequence (sequence_field rec) ≡ true).
-    by_not (Found rec) (eqb (check_field rec) (check_word (sequence_field rec))) (of_check rec sized range)
-    (λ (check : eqb (check_field rec) (check_word (sequence_field rec)) ≡ true).
-    by_not (Found rec) (is_state (state_field rec)) (of_state rec sized range check) (of_good rec sized range check)))))
+erased-read = refl
 
--- ---- the laws
+-- ---- no other answer holds
 
-pub good_law : GoodLaw
-unfolding GoodLaw
-good_law rec = (found rec).same_good
+alone : (bytes : List ℕ) (answer : Reading) → HoldsOf bytes answer → answer ≡ read bytes
+unfolding read is_good
+alone bytes (Err WrongSize) holds = grind (arith, nat_tests)
+alone bytes (Err Blank) holds = sym (ap read holds ∙ erased-read)
+alone bytes (Err BadSequence) (size, other, out) = let blank = written bytes size other in grind (arith, nat_tests)
+alone bytes (Err BadCheckWord) holds = grind (arith, nat_tests, not_blank bytes)
+alone bytes (Err BadState) holds = grind (arith, nat_tests, not_blank bytes)
+alone bytes (Ok r) holds = grind (arith, nat_tests, read-good bytes r.state)
 
-pub answer_shape : (rec : List ℕ) → read rec ≡ viewed view (labelled rec (reading rec).verdict)
-answer_shape rec = (found rec).shape
+-- ---- the reader's answer holds
 
-pub reading_labelled : (rec : List ℕ) → reading rec ≡ labelled rec (reading rec).verdict
-reading_labelled rec = ap (λ (a : Answered Reading). a.reply) (answer_shape rec)
+with_state-err : (bytes : List ℕ) (state : Option State) → with_state bytes state ≡ Err BadState → state ≡ None
+with_state-err bytes None is = refl
+with_state-err bytes (Some state) is = cc
 
-pub view_law : ViewLaw
-unfolding ViewLaw
-view_law rec = ap (λ (a : Answered Reading). a.answer) (answer_shape rec)
+last_test : (size blank sequence check : Bool) (rest : Reading)
+    → (if not size then Err WrongSize else (if blank then Err Blank else (if not sequence then Err BadSequence else (if not check then Err BadCheckWord else rest)))) ≡ Err BadState
+    → rest ≡ Err BadState
+last_test size blank sequence check rest is = grind (arith, nat_tests)
 
-pub alone : (rec : List ℕ) (v : Verdict) → HoldsOf rec v → v ≡ (reading rec).verdict
-unfolding all_ff
-alone rec WrongSize h = wrong_size rec h
-alone rec Blank h = subst (λ (x : List ℕ). Blank ≡ (reading x).verdict) (sym h) erased
-  where
-    erased : Blank ≡ (reading (replicate 32 255)).verdict
-    erased = is_blank (replicate 32 255) refl true refl refl
-alone rec BadSequence (size, not-blank, n) =
-    ⊎_elim
-    (λ (e : all_ff rec ≡ true). absurd (not-blank (blank_is rec size e)))
-    (λ (e : all_ff rec ≡ false). bad_sequence rec size _ refl e _ refl _ refl (ap not n))
-    (true_or_false (all_ff rec))
-alone rec BadCheck (size, range, n) = bad_check rec size _ refl (written rec size range) _ refl _ refl (ap not range) _ refl _ refl n
-alone rec BadState (size, range, check, n) =
-    bad_state rec size _ refl (written rec size range) _ refl _ refl (ap not range) _ refl _ refl check _ refl _ refl (ap not n)
-alone rec (Good q s) (g, same-q, same_s) =
-    let is = is_good rec g in
-    ap₂ Good (ap (λ (n : ℕ). record { 0 = n }) same-q) (sym (state_of-word s) ∙ ap state_of same_s)
-    ∙ all_right rec is.size _ refl (written rec is.size is.range) _ refl _ refl (ap not is.range) _ refl _ refl is.check _ refl _ refl
-    (ap not is.state) _ refl
+reached : (bytes : List ℕ) → read bytes ≡ Err BadState → with_state bytes (state_of (state_field bytes)) ≡ Err BadState
+unfolding read
+reached bytes is =
+    last_test (length bytes == 32) (is_blank bytes) (is_sequence (sequence_field bytes)) (check_field bytes == check_word (sequence_field bytes)) (with_state bytes (state_of (state_field bytes))) is
+
+holds_of : (bytes : List ℕ) (answer : Reading) → read bytes ≡ answer → HoldsOf bytes answer
+unfolding read is_good
+holds_of bytes (Err WrongSize) is = λ size. grind (arith, nat_tests)
+holds_of bytes (Err Blank) is = all_erased 32 bytes (grind (arith, nat_tests)) (grind (arith, nat_tests))
+holds_of bytes (Err BadSequence) is =
+    (grind (arith, nat_tests), (λ erased. let other = ap read erased ∙ erased-read in cc), grind (arith, nat_tests))
+holds_of bytes (Err BadCheckWord) is = (grind (arith, nat_tests), grind (arith, nat_tests), λ check. grind (arith, nat_tests))
+holds_of bytes (Err BadState) is =
+    (grind (arith, nat_tests), grind (arith, nat_tests), grind (arith, nat_tests), with_state-err bytes (state_of (state_field bytes)) (reached bytes is))
+holds_of bytes (Ok r) is =
+    let tests = passed bytes r is in
+    let found = with_state-ok bytes (state_of (state_field bytes)) r tests.3 in
+    (simp (tests.0, tests.1, tests.2, found.0), found.1, found.2, found.0)
 
 pub verdict_law : VerdictLaw
 unfolding VerdictLaw
-verdict_law rec = record { holds = (found rec).holds; alone = alone rec }
+verdict_law bytes = record { holds = holds_of bytes (read bytes) refl; alone = alone bytes }
+
+-- ---- good exactly where a record is read
+
+with_state-is_ok : (bytes : List ℕ) (state : Option State) → is_ok (with_state bytes state) ≡ is_some state
+with_state-is_ok bytes None = refl
+with_state-is_ok bytes (Some state) = refl
+
+four_tests : (size blank sequence check state : Bool) (rest : Reading)
+    → (size ≡ true → sequence ≡ true → blank ≡ false) → is_ok rest ≡ state
+    → is_ok {T = Record} {E = Fault} (if not size then Err WrongSize else (if blank then Err Blank else (if not sequence then Err BadSequence else (if not check then Err BadCheckWord else rest))))
+    ≡ (size && sequence && check && state)
+four_tests true false true true state rest apart same = same
+four_tests true false true false state rest apart same = refl
+four_tests true false false check state rest apart same = refl
+four_tests true true true check state rest apart same = let never = apart refl refl in cc
+four_tests true true false check state rest apart same = refl
+four_tests false blank sequence check state rest apart same = refl
+
+pub good_law : GoodLaw
+unfolding GoodLaw read is_good
+good_law bytes =
+    four_tests (length bytes == 32) (is_blank bytes) (is_sequence (sequence_field bytes)) (check_field bytes == check_word (sequence_field bytes))
+    (is_some (state_of (state_field bytes))) (with_state bytes (state_of (state_field bytes)))
+    (λ size. not_blank bytes (eqb-true _ 32 size))
+    (with_state-is_ok bytes (state_of (state_field bytes)))
+
+-- ---- the number and the values of the answer
+
+by_tests : (bytes : List ℕ) (size blank sequence check : Bool) (state : Option State)
+    → (length bytes == 32) ≡ size → is_blank bytes ≡ blank → is_sequence (sequence_field bytes) ≡ sequence
+    → (check_field bytes == check_word (sequence_field bytes)) ≡ check → state_of (state_field bytes) ≡ state
+    → answer_of (read bytes) ≡ answer_to bytes
+unfolding read answer_to
+by_tests bytes false blank sequence check state of_size of_blank of_sequence of_check of_state = simp of_size
+by_tests bytes true true sequence check state of_size of_blank of_sequence of_check of_state = simp (of_size, of_blank)
+by_tests bytes true false false check state of_size of_blank of_sequence of_check of_state = simp (of_size, of_blank, of_sequence)
+by_tests bytes true false true false state of_size of_blank of_sequence of_check of_state = simp (of_size, of_blank, of_sequence, of_check)
+by_tests bytes true false true true None of_size of_blank of_sequence of_check of_state = simp (of_size, of_blank, of_sequence, of_check, of_state)
+by_tests bytes true false true true (Some state) of_size of_blank of_sequence of_check of_state = simp (of_size, of_blank, of_sequence, of_check, of_state, word_of-state_of (state_field bytes) state of_state)
+
+pub view_law : ViewLaw
+unfolding ViewLaw
+view_law bytes =
+    by_tests bytes (length bytes == 32) (is_blank bytes) (is_sequence (sequence_field bytes)) (check_field bytes == check_word (sequence_field bytes))
+    (state_of (state_field bytes)) refl refl refl refl refl

@@ -1,179 +1,242 @@
--- The round trip of a record, both ways.
--- Assumes nothing.
-use Prim.Native.Nat.{ℕ, ◌+◌, ◌-◌, ◌*◌, ◌/◌, ◌^◌, ◌<◌, ◌≤◌}
-use mathlib.Core.Path.{◌≡◌, ◌∙◌, refl, sym, ap, ap₂}
-use mathlib.Core.Bool.{Bool, true, false, cond}
-use mathlib.Core.List.{List}
-use mathlib.Core.Logic.{⊎_elim}
-use native.Mathlib.Nat.{add-zero, zero-add}
-use native.Mathlib.Omega.{arith}
-use lib.ListN.{length, get_or, replicate}
-use lib.Seq.{ext_get_or}
-use Rattle.otadata.specs.declared.Sequence.{Sequence}
-use Rattle.otadata.specs.declared.State.{State}
-use Rattle.otadata.specs.declared.Verdict.TheVariants.{Good}
-use Rattle.otadata.specs.declared.Reading.{Reading}
-use Rattle.otadata.specs.declared.Made.{Made}
-use Rattle.otadata.specs.Words.{IsBytes, word, byte_of}
-use Rattle.otadata.specs.Records.{sequence_field, label_field, state_field, state_word, state_of, good, reading, good_verdict, record_of, made}
-use Rattle.otadata.specs.Verdicts.{GoodLaw}
-use Rattle.otadata.specs.RoundTrip.{MadeThenRead, ReadThenMade}
-use Rattle.otadata.proofs.Numbers.{le_or_lt, below_four}
-use Rattle.otadata.proofs.RecordFields.{record_length, sequence_byte, label_byte, state_byte, check_byte, label_field-length, label_field_byte}
-use Rattle.otadata.proofs.Goodness.{IsGood, is_good}
-use Rattle.otadata.proofs.States.{word_of_state}
-use Rattle.otadata.proofs.OneVerdict.{labelled, reading_labelled, alone, good_law}
+-- A record made and read, and read and made.
+use Rattle.std.proofs.Common.{◌≡◌, ℕ, ◌+◌, ◌^◌, ◌<◌, ◌≤◌, ◌==◌, Bool, true, false, ◌&&◌, if◌then◌else◌, is_some, Option, Result, List, All, [], ◌∷◌, ◌++◌, Ok, Err, Some, None, length, take, drop, get_or, slice_range, refl, sym, ap, ◌∙◌, append_assoc, arith, eq-eqb, eqb-true, take-add}
+use Rattle.std.specs.Int.{w32, to_le_bytes, from_le_bytes}
+use Rattle.std.proofs.lemmas.List.{take_at, drop_at, take_all, length-append}
+use Rattle.std.proofs.lemmas.Nat.{le_bytes_4, from_le_bytes-to_le_bytes_4}
+use Rattle.std.proofs.lemmas.Bool.Decides.{nat_tests}
+use Rattle.std.proofs.lemmas.Grind.{common_steps}
+use Rattle.otadata.specs.declared.records.Record.{Record}
+use Rattle.otadata.specs.declared.records.Sequence.{Sequence}
+use Rattle.otadata.specs.declared.records.NotGood.{NotGood}
+use Rattle.otadata.specs.declared.states.State.{State}
+use Rattle.otadata.specs.declared.states.State.TheVariants.{New, Pending, Valid, Invalid, Aborted, Undefined}
+use Rattle.otadata.specs.CheckWord.{check_word}
+use Rattle.otadata.specs.State.{word_of, state_of}
+use Rattle.otadata.specs.Record.{sequence_field, label_field, state_field, check_field, is_sequence, is_blank, is_good, read, fields, bytes_of, with_state, made}
+use Rattle.otadata.specs.RoundTrip.{SameFields, MadeThenRead, ReadThenMade}
 
--- ---- words and bytes
+state_of-word_of : (state : State) → state_of (word_of state) ≡ Some state
+state_of-word_of New = refl
+state_of-word_of Pending = refl
+state_of-word_of Valid = refl
+state_of-word_of Invalid = refl
+state_of-word_of Aborted = refl
+state_of-word_of Undefined = refl
 
-joined : (w w1 w2 b0 b1 b2 b3 : ℕ) → b0 + 256 * w1 ≡ w → b1 + 256 * w2 ≡ w1 → b2 + 256 * b3 ≡ w2
-    → b0 + 256 * b1 + 65536 * b2 + 16777216 * b3 ≡ w
-joined w w1 w2 b0 b1 b2 b3 e0 e1 e2 = omega arith
+-- the parts of four lists end to end
+module _ (a b c d : List ℕ) (size_a : length a ≡ 4) (size_b : length b ≡ 20) (size_c : length c ≡ 4) (size_d : length d ≡ 4) where
+  ends_b : length (a ++ b) ≡ 24
+  ends_b = omega (arith, length-append a b)
 
-four_bytes : (w : ℕ) → w < 2 ^ 32 → byte_of w 0 + 256 * byte_of w 1 + 65536 * byte_of w 2 + 16777216 * byte_of w 3 ≡ w
-four_bytes w l =
-    joined w (w / 256) (w / 65536) (byte_of w 0) (byte_of w 1) (byte_of w 2) (byte_of w 3) (omega arith) (omega arith) (omega arith)
+  ends_c : length (a ++ b ++ c) ≡ 28
+  ends_c = omega (arith, length-append (a ++ b) c, ends_b)
 
-pub word_of_bytes : (s : List ℕ) (at w : ℕ) → w < 2 ^ 32 → ((i : ℕ) → i < 4 → get_or s (at + i) 0 ≡ byte_of w i) → word s at ≡ w
-word_of_bytes s at w l same =
-    ap₂ ◌+◌
-    (ap₂ ◌+◌
-    (ap₂ ◌+◌ (rw add-zero at (same 0 (omega arith))) (ap (◌*◌ 256) (same 1 (omega arith))))
-    (ap (◌*◌ 65536) (same 2 (omega arith))))
-    (ap (◌*◌ 16777216) (same 3 (omega arith)))
-    ∙ four_bytes w l
+  ends_d : length (a ++ b ++ c ++ d) ≡ 32
+  ends_d = omega (arith, length-append (a ++ b ++ c) d, ends_c)
 
-byte_of-word : (s : List ℕ) (at : ℕ) → IsBytes s → (i : ℕ) → i < 4 → byte_of (word s at) i ≡ get_or s (at + i) 0
-byte_of-word s at b =
-    let l0 = b at in
-    let l1 = b (at + 1) in
-    let l2 = b (at + 2) in
-    let l3 = b (at + 3) in
-    below_four (λ (i : ℕ). byte_of (word s at) i ≡ get_or s (at + i) 0) (rw add-zero (omega arith)) (omega arith) (omega arith) (omega arith)
+  part_a : slice_range (a ++ b ++ c ++ d) 0 4 ≡ a
+  part_a = rw (append_assoc (a ++ b) c d, append_assoc a b (c ++ d)) (take_at a _ 4 size_a)
 
--- ---- the fields of the bytes of the fields
+  part_b : slice_range (a ++ b ++ c ++ d) 4 24 ≡ b
+  part_b = rw (append_assoc (a ++ b) c d, append_assoc a b (c ++ d), drop_at a (b ++ (c ++ d)) 4 size_a) (take_at b _ 20 size_b)
 
-module _ (q : ℕ) (label : List ℕ) (state : ℕ) (lq : q < 2 ^ 32) (size : length label ≡ 20) (ls : state < 2 ^ 32) where
-  pub made_sequence : sequence_field (record_of q label state) ≡ q
-  made_sequence = word_of_bytes (record_of q label state) 0 q lq (λ (i : ℕ) (l : i < 4). rw zero-add (sequence_byte q label state size i l))
+  part_c : slice_range (a ++ b ++ c ++ d) 24 28 ≡ c
+  part_c = rw (append_assoc (a ++ b) c d, drop_at (a ++ b) (c ++ d) 24 ends_b) (take_at c _ 4 size_c)
 
-  pub made_state : state_field (record_of q label state) ≡ state
-  made_state =
-      word_of_bytes (record_of q label state) 24 state ls
-      (λ (i : ℕ) (l : i < 4).
-      let at : 24 + i - 24 ≡ i = omega arith in
-      state_byte q label state size (24 + i) (omega arith) (omega arith) ∙ ap (byte_of state) at)
+  part_d : slice_range (a ++ b ++ c ++ d) 28 32 ≡ d
+  part_d = rw (drop_at (a ++ b ++ c) d 28 ends_c) (take_all 4 d (omega arith))
 
-  pub made_label : label_field (record_of q label state) ≡ label
-  made_label =
-      ext_get_or 0 (label_field (record_of q label state)) label
-      (label_field-length (record_of q label state) (record_length q label state size) ∙ sym size)
-      (λ (i : ℕ) (l : i < length (label_field (record_of q label state))).
-      let h : i < 20 = omega (arith, label_field-length (record_of q label state) (record_length q label state size)) in
-      let at : 4 + i - 4 ≡ i = omega arith in
-      label_field_byte (record_of q label state) i h
-      ∙ label_byte q label state size (4 + i) (omega arith) (omega arith)
-      ∙ ap (λ (j : ℕ). get_or label j 0) at)
+check_word-fits : (q : ℕ) → check_word q < 2 ^ 32
+unfolding check_word
+check_word-fits q = omega arith
 
--- ---- made, then read
+-- the fields of the bytes of the fields
+module _ (q : ℕ) (label : List ℕ) (word : ℕ) (fits_q : q < 2 ^ 32) (size : length label ≡ 20) (fits_word : word < 2 ^ 32) where
+  fields-length : length (fields q label word) ≡ 32
+  unfolding fields
+  fields-length = ends_d (to_le_bytes w32 q) label (to_le_bytes w32 word) (to_le_bytes w32 (check_word q)) refl size refl refl
 
--- what is made with 0 is the fields' bytes, and good
-made_by : (b : Bool) (rec zeros : List ℕ)
-    → (cond {A = Made} b (record { number = 0; rec = rec }) (record { number = 17; rec = zeros })).number ≡ 0
-    → (b ≡ true) × ((cond {A = Made} b (record { number = 0; rec = rec }) (record { number = 17; rec = zeros })).rec ≡ rec)
-made_by true rec zeros e = (refl, refl)
-made_by false rec zeros e = absurd (omega arith)
+  sequence_is : sequence_field (fields q label word) ≡ q
+  unfolding fields
+  sequence_is = ap (from_le_bytes w32) (part_a (to_le_bytes w32 q) label (to_le_bytes w32 word) (to_le_bytes w32 (check_word q)) refl size refl refl) ∙ from_le_bytes-to_le_bytes_4 q fits_q
 
-made_good : (q : Sequence) (label : List ℕ) (state : ℕ) → (made q label state).number ≡ 0
-    → (good (record_of q.0 label state) ≡ true) × ((made q label state).rec ≡ record_of q.0 label state)
-unfolding made
-made_good q label state e = made_by (good (record_of q.0 label state)) (record_of q.0 label state) (replicate 32 0) e
+  label_is : label_field (fields q label word) ≡ label
+  unfolding fields
+  label_is = part_b (to_le_bytes w32 q) label (to_le_bytes w32 word) (to_le_bytes w32 (check_word q)) refl size refl refl
 
-pub reading_of_good : (rec : List ℕ) → good rec ≡ true
-    → reading rec ≡ record { verdict = Good (record { 0 = sequence_field rec }) (state_of (state_field rec)); label = label_field rec }
-reading_of_good rec g =
-    let word = word_of_state (state_field rec) (is_good rec g).state in
-    reading_labelled rec ∙ ap (labelled rec) (sym (alone rec (Good (record { 0 = sequence_field rec }) (state_of (state_field rec))) (g, refl, word)))
+  word_is : state_field (fields q label word) ≡ word
+  unfolding fields
+  word_is = ap (from_le_bytes w32) (part_c (to_le_bytes w32 q) label (to_le_bytes w32 word) (to_le_bytes w32 (check_word q)) refl size refl refl) ∙ from_le_bytes-to_le_bytes_4 word fits_word
 
-pub made_then_read : MadeThenRead
-unfolding MadeThenRead
-made_then_read q label w lq size lw e =
-    let m = made_good q label w e in
-    let state = made_state q.0 label w lq size lw in
+  check_is : check_field (fields q label word) ≡ check_word q
+  unfolding fields
+  check_is = ap (from_le_bytes w32) (part_d (to_le_bytes w32 q) label (to_le_bytes w32 word) (to_le_bytes w32 (check_word q)) refl size refl refl) ∙ from_le_bytes-to_le_bytes_4 (check_word q) (check_word-fits q)
+
+-- a sequence in range is not the erased one
+pub not_blank : (bytes : List ℕ) → length bytes ≡ 32 → is_sequence (sequence_field bytes) ≡ true → is_blank bytes ≡ false
+not_blank [] size good = absurd (omega arith)
+not_blank (a ∷ []) size good = absurd (omega arith)
+not_blank (a ∷ b ∷ []) size good = absurd (omega arith)
+not_blank (a ∷ b ∷ c ∷ []) size good = absurd (omega arith)
+not_blank (a ∷ b ∷ c ∷ d ∷ rest) size good = grind (arith, nat_tests)
+
+-- what a good record reads as
+pub read-good : (bytes : List ℕ) (state : State)
+    → length bytes ≡ 32
+    → is_sequence (sequence_field bytes) ≡ true
+    → check_field bytes ≡ check_word (sequence_field bytes)
+    → state_of (state_field bytes) ≡ Some state
+    → read bytes ≡ Ok (record { sequence = record { 0 = sequence_field bytes }; label = label_field bytes; state = state })
+unfolding read
+read-good bytes state size sequence check of_word =
+    simp (size, not_blank bytes size sequence, sequence, eq-eqb _ _ check, of_word)
+
+word_of-lt : (state : State) → word_of state < 2 ^ 32
+word_of-lt New = omega arith
+word_of-lt Pending = omega arith
+word_of-lt Valid = omega arith
+word_of-lt Invalid = omega arith
+word_of-lt Aborted = omega arith
+word_of-lt Undefined = omega arith
+
+below_last : (q : ℕ) → is_sequence q ≡ true → q < 2 ^ 32
+below_last q good = grind (arith, nat_tests)
+
+-- fields that are in range are read back
+pub read-fields : (q : ℕ) (label : List ℕ) (state : State) → length label ≡ 20 → is_sequence q ≡ true
+    → read (fields q label (word_of state)) ≡ Ok (record { sequence = record { 0 = q }; label = label; state = state })
+read-fields q label state size good =
+    let word = word_of state in
+    let fits = below_last q good in
+    let same = sequence_is q label word fits size (word_of-lt state) in
+    read-good (fields q label word) state (fields-length q label word fits size (word_of-lt state)) (rw same good)
+    (check_is q label word fits size (word_of-lt state) ∙ ap check_word (sym same))
+    (ap state_of (word_is q label word fits size (word_of-lt state)) ∙ state_of-word_of state)
+    ∙ simp (same, label_is q label word fits size (word_of-lt state))
+
+-- a record made is read back
+pub read_bytes_of : (r : Record) → length r.label ≡ 20 → is_sequence r.sequence.0 ≡ true → read (bytes_of r) ≡ Ok r
+read_bytes_of r size good = read-fields r.sequence.0 r.label r.state size good
+
+-- the facts of a good record
+pub record Good (bytes : List ℕ) (state : State) : Type 0 where
+  pub size : length bytes ≡ 32
+  pub sequence : is_sequence (sequence_field bytes) ≡ true
+  pub check : check_field bytes ≡ check_word (sequence_field bytes)
+  pub of_word : state_of (state_field bytes) ≡ Some state
+
+pub with_state-ok : (bytes : List ℕ) (state : Option State) (r : Record) → with_state bytes state ≡ Ok r
+    → (state ≡ Some r.state) × (r.sequence.0 ≡ sequence_field bytes) × (r.label ≡ label_field bytes)
+with_state-ok bytes None r is_ok = cc
+with_state-ok bytes (Some state) r is_ok =
+    let e : record { sequence = record { 0 = sequence_field bytes }; label = label_field bytes; state = state } ≡ r = cc in
+    (ap (λ (x : Record). Some x.state) e, sym (ap (λ (x : Record). x.sequence.0) e), sym (ap (λ (x : Record). x.label) e))
+
+-- the tests that bytes pass to be read as a record
+pub passed : (bytes : List ℕ) (r : Record) → read bytes ≡ Ok r
+    → ((length bytes == 32) ≡ true)
+    × (is_sequence (sequence_field bytes) ≡ true)
+    × ((check_field bytes == check_word (sequence_field bytes)) ≡ true)
+    × (with_state bytes (state_of (state_field bytes)) ≡ Ok r)
+unfolding read
+passed bytes r is_ok = grind (arith, nat_tests)
+
+-- four parts of 32 bytes, end to end
+parts : (bytes : List ℕ) → length bytes ≡ 32
+    → slice_range bytes 0 4 ++ slice_range bytes 4 24 ++ slice_range bytes 24 28 ++ slice_range bytes 28 32 ≡ bytes
+parts bytes size =
+    rw (← take-add 4 20 bytes, ← take-add 24 4 bytes, ← take-add 28 4 bytes) (take_all 32 bytes (omega arith))
+
+-- a part of bytes has bytes
+bytes_in : (bytes : List ℕ) (from n : ℕ) → ((i : ℕ) → get_or bytes i 0 < 256) → (i : ℕ) → get_or (take n (drop from bytes)) i 0 < 256
+bytes_in bytes from n are_bytes i = grind (arith, common_steps, are_bytes (from + i))
+
+-- the word of four of the bytes gives them back
+word_back : (bytes : List ℕ) (from : ℕ) → ((i : ℕ) → get_or bytes i 0 < 256) → from + 4 ≤ length bytes
+    → to_le_bytes w32 (from_le_bytes w32 (take 4 (drop from bytes))) ≡ take 4 (drop from bytes)
+word_back bytes from are_bytes within =
+    le_bytes_4 (take 4 (drop from bytes)) (from_le_bytes w32 (take 4 (drop from bytes))) (grind (arith, common_steps)) (bytes_in bytes from 4 are_bytes) refl
+
+pub word_of-state_of : (word : ℕ) (state : State) → state_of word ≡ Some state → word_of state ≡ word
+word_of-state_of word state is = grind (arith, nat_tests)
+
+joined : {a a' b b' c c' d d' : List ℕ} → a ≡ a' → b ≡ b' → c ≡ c' → d ≡ d' → a ++ b ++ c ++ d ≡ a' ++ b' ++ c' ++ d'
+joined same_a same_b same_c same_d = cc
+
+-- a good record, made again, is the same bytes
+pub bytes_of_read : (bytes : List ℕ) (r : Record) → ((i : ℕ) → get_or bytes i 0 < 256) → read bytes ≡ Ok r → bytes_of r ≡ bytes
+unfolding fields
+bytes_of_read bytes r are_bytes is_ok =
+    let tests = passed bytes r is_ok in
+    let found = with_state-ok bytes (state_of (state_field bytes)) r tests.3 in
+    let size = eqb-true _ 32 tests.0 in
+    let check = eqb-true (check_field bytes) (check_word (sequence_field bytes)) tests.2 in
+    joined
+    (ap (to_le_bytes w32) found.1 ∙ word_back bytes 0 are_bytes (omega arith))
+    found.2
+    (ap (to_le_bytes w32) (word_of-state_of (state_field bytes) r.state found.0) ∙ word_back bytes 24 are_bytes (omega arith))
+    (ap (λ q. to_le_bytes w32 (check_word q)) found.1 ∙ ap (to_le_bytes w32) (sym check) ∙ word_back bytes 28 are_bytes (omega arith))
+    ∙ parts bytes size
+
+and_true : (b : Bool) → (b && true) ≡ b
+and_true true = refl
+and_true false = refl
+
+-- the bytes of the fields are good exactly where the sequence is in range and the word is a state's
+pub is_good_fields : (q : ℕ) (label : List ℕ) (word : ℕ) → q < 2 ^ 32 → length label ≡ 20 → word < 2 ^ 32
+    → is_good (fields q label word) ≡ (is_sequence q && is_some (state_of word))
+unfolding is_good
+is_good_fields q label word fits size fits_word =
+    simp (fields-length q label word fits size fits_word, sequence_is q label word fits size fits_word, check_is q label word fits size fits_word, word_is q label word fits size fits_word, eq-eqb (check_word q) (check_word q) refl)
+    (ap (λ b. b && is_some (state_of word)) (and_true (is_sequence q)))
+
+-- the sequence of a record that was read is in range
+pub is_sequence_read : (bytes : List ℕ) (r : Record) → read bytes ≡ Ok r → is_sequence r.sequence.0 ≡ true
+is_sequence_read bytes r is_ok =
+    let tests = passed bytes r is_ok in
+    ap is_sequence (with_state-ok bytes (state_of (state_field bytes)) r tests.3).1 ∙ tests.1
+
+-- ---- the laws
+
+-- what is made are the fields' bytes, and good
+made-ok : (good : Bool) (bytes found : List ℕ) → if◌then◌else◌ {A = Result (List ℕ) NotGood} good (Ok bytes) (Err (record {})) ≡ Ok found → (good ≡ true) × (bytes ≡ found)
+made-ok true bytes found is = (refl, cc)
+made-ok false bytes found is = cc
+
+same_fields : (sequence : Sequence) (label : List ℕ) (word : ℕ) (state : Option State)
+    → length label ≡ 20 → is_sequence sequence.0 ≡ true → state_of word ≡ state → is_some state ≡ true
+    → SameFields sequence label word (read (fields sequence.0 label word))
+same_fields sequence label word None size good is some = cc
+same_fields sequence label word (Some state) size good is some =
+    let back = word_of-state_of word state is in
     record {
-      state = state_of w;
-      of_word = word_of_state w (rw state at (is_good (record_of q.0 label w) m.0).state);
-      same = ap reading m.1
-          ∙ reading_of_good (record_of q.0 label w) m.0
-          ∙ simp (made_sequence q.0 label w lq size lw, state, made_label q.0 label w lq size lw);
+      state = state;
+      of_word = back;
+      same = ap (λ w. read (fields sequence.0 label w)) (sym back) ∙ read-fields sequence.0 label state size good;
     }
 
--- ---- read, then made
+both : (a b : Bool) → (a && b) ≡ true → (a ≡ true) × (b ≡ true)
+both true true e = (refl, refl)
+both true false e = cc
+both false b e = cc
 
--- the bytes of the fields of a good record are its own
-same_record : (rec : List ℕ) → IsBytes rec → IsGood rec → record_of (sequence_field rec) (label_field rec) (state_field rec) ≡ rec
-same_record rec b g =
-    ext_get_or 0 (record_of q label state) rec (sized ∙ sym g.size)
-    (λ (i : ℕ) (l : i < length (record_of q label state)).
-    let h : i < 32 = omega (arith, sized) in
-    ⊎_elim
-    (λ (past-state : 28 ≤ i).
-    check_byte q label state size i past-state h
-    ∙ ap (λ (w : ℕ). byte_of w (i - 28)) (sym g.check)
-    ∙ byte_of-word rec 28 b (i - 28) (omega arith)
-    ∙ ap (λ (j : ℕ). get_or rec j 0) (omega arith))
-    (λ (in_state_lem : i < 28).
-    ⊎_elim
-    (λ (past-label : 24 ≤ i).
-    state_byte q label state size i past-label in_state_lem
-    ∙ byte_of-word rec 24 b (i - 24) (omega arith)
-    ∙ ap (λ (j : ℕ). get_or rec j 0) (omega arith))
-    (λ (in-label : i < 24).
-    ⊎_elim
-    (λ (past-sequence : 4 ≤ i).
-    label_byte q label state size i past-sequence in-label
-    ∙ label_field_byte rec (i - 4) (omega arith)
-    ∙ ap (λ (j : ℕ). get_or rec j 0) (omega arith))
-    (λ (in-sequence : i < 4). sequence_byte q label state size i in-sequence ∙ byte_of-word rec 0 b i in-sequence ∙ ap (λ (j : ℕ). get_or rec j 0) (zero-add i))
-    (le_or_lt 4 i))
-    (le_or_lt 24 i))
-    (le_or_lt 28 i))
-  where
-    q : ℕ
-    q = sequence_field rec
+pub made_then_read : MadeThenRead
+unfolding MadeThenRead made
+made_then_read sequence label word bytes fits size fits_word is =
+    let found = made-ok (is_good (fields sequence.0 label word)) (fields sequence.0 label word) bytes is in
+    let tests = both (is_sequence sequence.0) (is_some (state_of word)) (sym (is_good_fields sequence.0 label word fits size fits_word) ∙ found.0) in
+    rw (← found.1) (same_fields sequence label word (state_of word) size tests.0 refl tests.1)
 
-    label : List ℕ
-    label = label_field rec
+good_bytes : (bytes : List ℕ) (r : Record) → read bytes ≡ Ok r → is_good bytes ≡ true
+unfolding is_good
+good_bytes bytes r is =
+    let tests = passed bytes r is in
+    simp (tests.0, tests.1, tests.2, (with_state-ok bytes (state_of (state_field bytes)) r tests.3).0)
 
-    state : ℕ
-    state = state_field rec
-
-    size : length label ≡ 20
-    size = label_field-length rec g.size
-
-    sized : length (record_of q label state) ≡ 32
-    sized = record_length q label state size
-
--- a verdict of good is given to a good record alone
-pub read_good : (rec : List ℕ) (q : Sequence) (s : State) → (reading rec).verdict ≡ Good q s → good rec ≡ true
-unfolding GoodLaw
-read_good rec q s e = sym (good_law rec) ∙ ap good_verdict e
-
-made_of_good : (rec : List ℕ) (q : Sequence) (label : List ℕ) (w : ℕ) → good rec ≡ true → record_of q.0 label w ≡ rec
-    → made q label w ≡ record { number = 0; rec = rec }
-unfolding made
-made_of_good rec q label w g e = simp (e, g)
+byte_below : (bytes : List ℕ) → All (λ byte. byte < 256) bytes → (i : ℕ) → get_or bytes i 0 < 256
+byte_below bytes are_bytes i = grind (arith, common_steps, are_bytes i 0)
 
 pub read_then_made : ReadThenMade
-unfolding ReadThenMade
-read_then_made rec q s b e =
-    let g = read_good rec q s e in
-    let is = is_good rec g in
-    let r = reading_of_good rec g in
-    let v : Good (record { 0 = sequence_field rec }) (state_of (state_field rec)) ≡ Good q s = sym (ap (λ (x : Reading). x.verdict) r) ∙ e in
-    let same-q : sequence_field rec ≡ q.0 = cc in
-    let same_s : state_of (state_field rec) ≡ s = cc in
-    let same-label : (reading rec).label ≡ label_field rec = ap (λ (x : Reading). x.label) r in
-    let same_w : state_word s ≡ state_field rec = ap state_word (sym same_s) ∙ word_of_state (state_field rec) is.state in
-    made_of_good rec q (reading rec).label (state_word s) g
-    (simp (← same-q, same-label, same_w) (same_record rec b is))
+unfolding ReadThenMade made
+read_then_made bytes r are_bytes is =
+    simp (bytes_of_read bytes r (byte_below bytes are_bytes) is, good_bytes bytes r is)

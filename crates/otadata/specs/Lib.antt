@@ -1,5 +1,9 @@
-pub mod Answers
-pub mod Words
-pub mod Records
+pub mod CheckWord
+pub mod State
+pub mod Record
+pub mod Answer
+pub mod Number
+pub mod Word
 pub mod Verdicts
 pub mod RoundTrip
+pub mod Examples

@@ -1,28 +1,27 @@
--- Demand 2's round trip of a record, both ways, in the definitions that the contracts of `make` and `read` cite.
-use Rattle.std.specs.Prelude.{ℕ, ◌^◌, ◌<◌, ◌≡◌, List, length}
-use Rattle.otadata.specs.declared.Sequence.{Sequence}
-use Rattle.otadata.specs.declared.State.{State}
-use Rattle.otadata.specs.declared.Verdict.TheVariants.{Good}
-use Rattle.otadata.specs.declared.Reading.{Reading}
-use Rattle.otadata.specs.Words.{IsBytes}
-use Rattle.otadata.specs.Records.{state_word, reading, made}
+-- The round trip of a record, both ways.
+use Rattle.std.specs.Prelude.{ℕ, ◌^◌, ◌<◌, ◌≡◌, List, length, All, Ok}
+use Rattle.otadata.specs.declared.records.Sequence.{Sequence}
+use Rattle.otadata.specs.declared.records.Record.{Record}
+use Rattle.otadata.specs.declared.states.State.{State}
+use Rattle.otadata.specs.State.{word_of}
+use Rattle.otadata.specs.Record.{Reading, read, made}
 
 -- the fields that were made are read: the sequence, the label, and the state whose word was given
-pub record SameFields (q : Sequence) (label : List ℕ) (w : ℕ) (r : Reading) : Type 0 where
+pub record SameFields (sequence : Sequence) (label : List ℕ) (word : ℕ) (reading : Reading) : Type 0 where
   pub state : State
-  pub of_word : state_word state ≡ w
-  pub same : r ≡ record { verdict = Good q state; label = label }
+  pub of_word : word_of state ≡ word
+  pub same : reading ≡ Ok (record { sequence = sequence; label = label; state = state })
 
 -- a record made is read back as the same record
 unfoldable pub MadeThenRead : Type 0
 MadeThenRead =
-    (q : Sequence) (label : List ℕ) (w : ℕ)
-    → q.0 < 2 ^ 32 → length label ≡ 20 → w < 2 ^ 32 → (made q label w).number ≡ 0
-    → SameFields q label w (reading (made q label w).rec)
+    (sequence : Sequence) (label : List ℕ) (word : ℕ) (bytes : List ℕ)
+    → sequence.0 < 2 ^ 32 → length label ≡ 20 → word < 2 ^ 32 → made sequence label word ≡ Ok bytes
+    → SameFields sequence label word (read bytes)
 
 -- a good record, read and made again, is the same 32 bytes
 unfoldable pub ReadThenMade : Type 0
 ReadThenMade =
-    (rec : List ℕ) (q : Sequence) (s : State)
-    → IsBytes rec → (reading rec).verdict ≡ Good q s
-    → made q (reading rec).label (state_word s) ≡ record { number = 0; rec = rec }
+    (bytes : List ℕ) (r : Record)
+    → All (λ byte. byte < 256) bytes → read bytes ≡ Ok r
+    → made r.sequence r.label (word_of r.state) ≡ Ok bytes

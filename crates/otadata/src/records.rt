@@ -1,228 +1,227 @@
-// A record: what it is found to be, what it reads as, and how one is made.
-ghost use Rattle.std.specs.Prelude.{◌≡◌, ◌<◌, length, get_or};
-ghost use Rattle.otadata.specs.Answers.{viewed};
-ghost use Rattle.otadata.specs.Words.{check_word};
-ghost use Rattle.otadata.specs.Records.{label_field, state_word, is_state, state_of, is_sequence, all_ff, read, view, reading};
-ghost use Rattle.otadata.specs.Records.{usable_state, usable, in_state, sequence_in, names_slot, record_of, made};
+ghost use Rattle.std.specs.Prelude.{◌≡◌, is_ok, IsTrue, IfOk};
+ghost use Rattle.otadata.specs.Record.{is_blank, is_sequence, made};
+ghost use Rattle.otadata.specs.declared.records.Fault.TheVariants.{BadState};
 
-use crate::words::{byte_of, check_word, word_at};
-use crate::{
-    DONE, LAST_SEQUENCE, Made, NO_GOOD_RECORD, RECORD_SIZE, Reading, Sequence, Slot, State, Verdict,
-};
+use crate::check::check_word;
+use crate::numbers::Numbered;
+use crate::states::{NoState, State};
+use crate::{LAST_SEQUENCE, RECORD_SIZE};
+use std::error::Error;
+use std::fmt;
 
-impl State {
-    // The word that stands for the state in a record.
-    pub fn word(self) -> u32
-        ensures { result ≡ state_word self }
-    {
-        match self {
-            State::New => 0,
-            State::Pending => 1,
-            State::Valid => 2,
-            State::Invalid => 3,
-            State::Aborted => 4,
-            State::Undefined => 0xFFFF_FFFF,
-        }
-    }
-
-    // Whether a record in this state may be started.
-    fn usable(self) -> bool
-        ensures { result ≡ usable_state self }
-    {
-        match self {
-            State::New => true,
-            State::Pending => true,
-            State::Valid => true,
-            State::Invalid => false,
-            State::Aborted => false,
-            State::Undefined => true,
-        }
-    }
-}
+/// The sequence number of a record.
+#[derive(Clone, Copy, Debug, PartialEq, Eq, PartialOrd, Ord, Hash)]
+pub struct Sequence(pub u32);
 
 impl Sequence {
-    // The slot that a good record of this sequence names, with n slots.
-    pub fn slot(self, n: u32) -> Slot
-        ensures { result ≡ names_slot n self }
+    ghost use Rattle.otadata.specs.Record.{is_sequence, slot_of};
+
+    /// Whether a good record may have the sequence.
+    pub fn is_good(self) -> bool
+        ensures { result ≡ is_sequence self.0 }
     {
-        let sequence = self.0;
-        if n == 0 {
-            return Slot(0);
+        (1..=LAST_SEQUENCE).contains(&self.0)
+    }
+
+    /// The slot that a good record of this sequence names, with `n` slots; slot 0 where there are none.
+    pub fn slot(self, n: u32) -> Slot
+        ensures { result ≡ slot_of n self }
+    {
+        Slot(self.0.saturating_sub(1).checked_rem(n).unwrap_or(0))
+    }
+}
+
+/// The number of an OTA slot.
+#[derive(Clone, Copy, Debug, PartialEq, Eq, PartialOrd, Ord, Hash)]
+pub struct Slot(pub u32);
+
+/// A record without its check word, which follows from the sequence. It is good where its sequence is.
+#[derive(Clone, Copy, Debug, PartialEq, Eq)]
+pub struct Record {
+    pub sequence: Sequence,
+    pub label: [u8; 20],
+    pub state: State,
+}
+
+/// Why bytes hold no good record: the first of these that applies.
+#[derive(Clone, Copy, Debug, PartialEq, Eq, PartialOrd, Ord, Hash)]
+pub enum Fault {
+    /// They are not 32 bytes.
+    WrongSize,
+    /// Every byte is 0xFF.
+    Blank,
+    /// The sequence is 0 or above the highest.
+    BadSequence,
+    /// The check word is not that of the sequence.
+    BadCheckWord,
+    /// The state is none of the six.
+    BadState,
+}
+
+/// What bytes read as: a good record, or why there is none.
+pub type Reading = Result<Record, Fault>;
+
+impl Record {
+    ghost use Rattle.otadata.specs.Record.{read, is_good, bytes_of};
+
+    /// The good record in these bytes.
+    #[tactic(auto, unfolding(crate::specs::Record::read, crate::specs::Record::is_good))]
+    pub fn read(bytes: &[u8]) -> Reading
+        ensures exact { result ≡ read bytes.now }
+        ensures good { is_ok result ≡ is_good bytes.now }
+        ensures made_back { IfOk result (λ r. bytes_of r ≡ bytes.now) }
+    {
+        let bytes: &[u8; RECORD_SIZE] = bytes.try_into().map_err(|_| Fault::WrongSize)?;
+        if is_blank(bytes) {
+            return Err(Fault::Blank);
         }
-        if sequence == 0 {
-            return Slot(0);
+        let sequence = Sequence(u32::from_le_bytes(bytes[0..4].try_into().unwrap()));
+        if !sequence.is_good() {
+            return Err(Fault::BadSequence);
         }
-        Slot((sequence - 1) % n)
+        let check = u32::from_le_bytes(bytes[28..32].try_into().unwrap());
+        if check != check_word(sequence) {
+            return Err(Fault::BadCheckWord);
+        }
+        let word = u32::from_le_bytes(bytes[24..28].try_into().unwrap());
+        let state = State::try_from(word)?;
+        let label = bytes[4..24].try_into().unwrap();
+        Ok(Record {
+            sequence,
+            label,
+            state,
+        })
+    }
+
+    /// The 32 bytes of the record, with its check word.
+    #[tactic(auto, using(crate::proofs::RoundTrip::read_bytes_of), unfolding(crate::specs::Record::fields))]
+    pub fn to_bytes(self) -> [u8; RECORD_SIZE]
+        ensures bytes { result ≡ bytes_of self }
+        ensures reads_back { IsTrue (is_sequence self.sequence.0) → read result ≡ Ok self }
+    {
+        let mut bytes = [0u8; RECORD_SIZE];
+        let (sequence, rest) = bytes.split_at_mut(4);
+        let (label, rest) = rest.split_at_mut(20);
+        let (state, check) = rest.split_at_mut(4);
+        sequence.copy_from_slice(&self.sequence.0.to_le_bytes());
+        label.copy_from_slice(&self.label);
+        state.copy_from_slice(&self.state.word().to_le_bytes());
+        check.copy_from_slice(&check_word(self.sequence).to_le_bytes());
+        bytes
     }
 }
 
-// What the bytes are found to be.
-fn verdict_of(rec: &[u8]) -> Verdict
-    ensures { result ≡ (reading rec.now).verdict }
+/// Whether every byte is 0xFF.
+fn is_blank(bytes: &[u8]) -> bool
+    ensures { result ≡ is_blank bytes.now }
 {
-    if rec.len() != RECORD_SIZE {
-        return Verdict::WrongSize;
-    }
-    if all_ff(rec) {
-        return Verdict::Blank;
-    }
-    let sequence = word_at(rec, 0);
-    let state = word_at(rec, 24);
-    if !is_sequence(sequence) {
-        return Verdict::BadSequence;
-    }
-    if word_at(rec, 28) != check_word(Sequence(sequence)) {
-        return Verdict::BadCheck;
-    }
-    if !is_state(state) {
-        return Verdict::BadState;
-    }
-    Verdict::Good(Sequence(sequence), state_of(state))
+    bytes.iter().all(|&byte| byte == 0xFF)
 }
 
-// Whether every byte is 0xFF.
-fn all_ff(rec: &[u8]) -> bool
-    ensures { result ≡ all_ff rec.now }
-{
-    for i in 0..rec.len() {
-        if rec[i] != 0xFF {
-            return false;
+impl From<NoState> for Fault {
+    ghost from_gives = { λ _ fault. fault ≡ BadState };
+
+    fn from(_: NoState) -> Fault {
+        Fault::BadState
+    }
+}
+
+impl Fault {
+    ghost use Rattle.otadata.specs.Answer.{code_of, name_of};
+
+    /// The value that an answer gives; that of a good record is 1.
+    pub fn code(self) -> Option<u32>
+        ensures { result ≡ code_of self }
+    {
+        match self {
+            Fault::WrongSize => None,
+            Fault::Blank => Some(2),
+            Fault::BadSequence => Some(3),
+            Fault::BadCheckWord => Some(4),
+            Fault::BadState => Some(5),
         }
     }
-    true
-}
 
-fn is_sequence(word: u32) -> bool
-    ensures { result ≡ is_sequence word }
-{
-    if word < 1 {
-        return false;
-    }
-    word <= LAST_SEQUENCE
-}
-
-fn is_state(word: u32) -> bool
-    ensures { result ≡ is_state word }
-{
-    if word <= 4 {
-        return true;
-    }
-    word == 0xFFFF_FFFF
-}
-
-#[tactic(auto, unfolding(crate::specs::Records::state_of))]
-fn state_of(word: u32) -> State
-    ensures { result ≡ state_of word }
-{
-    match word {
-        0 => State::New,
-        1 => State::Pending,
-        2 => State::Valid,
-        3 => State::Invalid,
-        4 => State::Aborted,
-        _ => State::Undefined,
+    /// The name that is printed.
+    pub fn name(self) -> &'static str
+        ensures { result.now ≡ name_of self }
+    {
+        match self {
+            Fault::WrongSize => "wrong size",
+            Fault::Blank => "blank",
+            Fault::BadSequence => "bad sequence",
+            Fault::BadCheckWord => "bad check",
+            Fault::BadState => "bad state",
+        }
     }
 }
 
-// The record in these bytes, or why there is no good one.
-pub fn read(rec: &[u8]) -> Reading
-    ensures { viewed view result ≡ read rec.now }
+impl Numbered for Fault {
+    ghost use Rattle.otadata.specs.Answer.{number_of};
+
+    ghost number = { number_of };
+
+    fn number(self) -> u32 {
+        match self {
+            Fault::WrongSize => 2,
+            _ => 0,
+        }
+    }
+}
+
+impl fmt::Display for Fault {
+    ghost use Rattle.std.specs.Prelude.{Some};
+    ghost use Rattle.otadata.specs.Answer.{name_of};
+
+    ghost output = { λ fault. Some (name_of fault) };
+
+    fn fmt<W: fmt::Write>(&self, f: &mut fmt::Formatter<W>) -> fmt::Result {
+        f.write_str(self.name())
+    }
+}
+
+impl Error for Fault {}
+
+/// Makes the record of a sequence, a label and a state word.
+#[tactic(auto, using(crate::proofs::RoundTrip::is_good_fields), unfolding(crate::specs::Record::made))]
+pub fn make(sequence: Sequence, label: [u8; 20], word: u32) -> Result<[u8; RECORD_SIZE], NotGood>
+    ensures { result ≡ made sequence label word }
 {
-    let verdict = verdict_of(rec);
-    let Verdict::Good(_, _) = verdict else {
-        return Reading {
-            verdict,
-            label: [0; 20],
-        };
+    let state = State::try_from(word).map_err(|_| NotGood)?;
+    if !sequence.is_good() {
+        return Err(NotGood);
+    }
+    let record = Record {
+        sequence,
+        label,
+        state,
     };
-    let label = label_of(rec);
-    Reading { verdict, label }
+    Ok(record.to_bytes())
 }
 
-fn label_of(rec: &[u8]) -> [u8; 20]
-    requires { length rec.now ≡ 32 }
-    ensures { result ≡ label_field rec.now }
-{
-    let mut label = [0u8; 20];
-    for i in 0..20usize {
-        label[i] = rec[4 + i];
-    }
-    label
-}
+/// The refusal of fields that make no good record.
+#[derive(Clone, Copy, Debug, PartialEq, Eq)]
+pub struct NotGood;
 
-// Whether the record may be started: good, and neither invalid nor aborted.
-pub fn usable(reading: Reading) -> bool
-    ensures { result ≡ usable reading }
-{
-    let verdict = reading.verdict;
-    match verdict {
-        Verdict::Good(_, state) => state.usable(),
-        _ => false,
+impl Numbered for NotGood {
+    ghost use Rattle.otadata.specs.Answer.{number_of_not_good};
+
+    ghost number = { number_of_not_good };
+
+    fn number(self) -> u32 {
+        17
     }
 }
 
-// Whether the record is good and in that state.
-pub fn in_state(reading: Reading, state: State) -> bool
-    ensures { result ≡ in_state state reading.verdict }
-{
-    let verdict = reading.verdict;
-    match verdict {
-        Verdict::Good(_, its) => its.word() == state.word(),
-        _ => false,
+impl fmt::Display for NotGood {
+    ghost use Rattle.std.specs.Prelude.{Some};
+    ghost use Rattle.otadata.specs.Answer.{text_of_not_good};
+
+    ghost output = { λ refusal. Some (text_of_not_good refusal) };
+
+    fn fmt<W: fmt::Write>(&self, f: &mut fmt::Formatter<W>) -> fmt::Result {
+        f.write_str("the fields make no good record")
     }
 }
 
-// The sequence of a good record, and 0 of any other.
-pub fn sequence_of(reading: Reading) -> Sequence
-    ensures { result ≡ sequence_in reading.verdict }
-{
-    let verdict = reading.verdict;
-    match verdict {
-        Verdict::Good(sequence, _) => sequence,
-        _ => Sequence(0),
-    }
-}
-
-// Makes the record of a sequence, a label and a state word.
-pub fn make(sequence: Sequence, label: [u8; 20], state: u32) -> Made
-    ensures { result ≡ made sequence label state }
-{
-    let rec = fields(sequence, label, state);
-    let verdict = verdict_of(&rec);
-    let Verdict::Good(_, _) = verdict else {
-        return Made {
-            number: NO_GOOD_RECORD,
-            rec: [0; RECORD_SIZE],
-        };
-    };
-    Made { number: DONE, rec }
-}
-
-// The 32 bytes of the fields, whether they make a good record or not.
-fn fields(sequence: Sequence, label: [u8; 20], state: u32) -> [u8; RECORD_SIZE]
-    ensures { result ≡ record_of sequence.0 label state }
-{
-    let check = check_word(sequence);
-    let mut rec = [0u8; RECORD_SIZE];
-    for i in 0..RECORD_SIZE {
-        rec[i] = field_byte(sequence, label, state, check, i);
-    }
-    rec
-}
-
-// Byte i of the fields.
-fn field_byte(sequence: Sequence, label: [u8; 20], state: u32, check: u32, i: usize) -> u8
-    requires { (i < 32) × (check ≡ check_word sequence.0) }
-    ensures { result ≡ get_or (record_of sequence.0 label state) i 0 }
-{
-    if i < 4 {
-        return byte_of(sequence.0, i);
-    }
-    if i < 24 {
-        return label[i - 4];
-    }
-    if i < 28 {
-        return byte_of(state, i - 24);
-    }
-    byte_of(check, i - 28)
-}
+impl Error for NotGood {}

@@ -1,78 +1,68 @@
 -- The law of the parts: each subtype of a right list is listed once, so an app's part is that of the entry of its subtype.
--- Assumes nothing.
-use Prim.Native.Nat.{ℕ, ◌-◌, ◌<◌, ◌≤◌}
-use mathlib.Core.Path.{◌≡◌, refl, sym, ap}
-use mathlib.Core.Bool.{Bool, true, false, cond, ◌&&◌}
-use mathlib.Core.List.{List, []}
-use mathlib.Core.Logic.{inl, inr}
-use native.Mathlib.Omega.{arith}
-use lib.Dec.{ltb}
-use lib.ListN.{length, length-drop}
-use lib.Seq.{length-take-le}
-use borrow.Author.Tests.{eq-eqb, ne_eqb, lt-ltb, ltb-true}
-use Rattle.sectors.specs.Sectors.{Part}
-use Rattle.partitions.specs.declared.App.{App}
-use Rattle.partitions.specs.PartitionList.{entry_count, entry_at, end_of, has_subtype, times_listed, slot_count, slot_subtype, factory_subtype}
-use Rattle.partitions.specs.PartitionList.{max_flash, right, subtype_of, entry_of, entry_part, app_part, app_of, EntryParts}
-use Rattle.partitions.specs.RightList.{FactoryOrSlot, RightList}
-use Rattle.partitions.proofs.Below.{count_once, first_found, first_least}
+use Rattle.std.proofs.Common.{◌≡◌, subst, ℕ, ◌+◌, ◌-◌, ◌≤◌, zero, suc, Bool, true, false, cond, ◌==◌, List, [], ◌∷◌, Some, Contains, All, inl, inr, find, count_by, length, arith}
+use Rattle.std.proofs.lemmas.Bool.Decides.{nat_tests}
+use Rattle.std.proofs.lemmas.Grind.{common_steps}
+use Rattle.std.proofs.lemmas.List.Sums.{sum_by-cons}
+use Rattle.sectors.specs.Part.{Part}
+use Rattle.partitions.specs.declared.entry.TheConstants.{FIRST_SLOT}
+use Rattle.partitions.specs.declared.entry.Entry.{Entry}
+use Rattle.partitions.specs.Entry.{end_of, entry_part}
+use Rattle.partitions.specs.PartitionList.{entries_of, times_listed, slot_count, subtype_of, entry_with, image_of, app_part}
+use Rattle.partitions.specs.RightList.{FactoryOrSlot, RightEntry, RightEntries}
+use Rattle.partitions.specs.EntryParts.{app_of, EntryParts}
 use Rattle.partitions.proofs.RightMeans.{right_is}
 
 -- ---- a subtype of the list
 
 -- its app has it
 app_back : (n t : ℕ) → FactoryOrSlot n t → subtype_of (app_of t) ≡ t
-app_back n t (inl f) = simp (eq-eqb t factory_subtype f) (sym f)
-app_back n t (inr s) = simp (ne_eqb t factory_subtype (λ (z : t ≡ 0). omega arith)) (omega arith)
+app_back n t (inl factory) = grind (arith, nat_tests, factory)
+app_back n t (inr slot) = grind (arith, nat_tests, slot.0, slot.1)
 
 -- it is listed at most once
-listed_once : (list : List ℕ) (capacity t : ℕ) → RightList list capacity → FactoryOrSlot (slot_count list) t → times_listed list t ≤ 1
-listed_once list capacity t r (inl f) = omega (arith, r.factory, ap (times_listed list) f)
-listed_once list capacity t r (inr s) =
-    let slot = t - slot_subtype 0 in
-    let same : slot_subtype slot ≡ t = omega arith in
-    omega (arith, r.slots slot (omega arith), ap (times_listed list) same)
+listed_once : (entries : List Entry) (capacity t : ℕ) → RightEntries entries capacity → FactoryOrSlot (slot_count entries) t → times_listed t entries ≤ 1
+listed_once entries capacity t right (inl factory) = grind (arith, right.factory, factory)
+listed_once entries capacity t right (inr slot) =
+    let once = right.slots (t - FIRST_SLOT) (omega (arith, slot.0, slot.1)) in
+    let same : FIRST_SLOT + (t - FIRST_SLOT) ≡ t = omega (arith, slot.0) in
+    grind (arith, once, same)
 
 -- ---- the entry of a subtype that is listed once
 
-the_entry : (list : List ℕ) (i : ℕ) → i < entry_count list → times_listed list (entry_at list i).subtype ≤ 1 → entry_of list (entry_at list i).subtype ≡ i
-the_entry list i l once =
-    let t = (entry_at list i).subtype in
-    let p = has_subtype list t in
-    let here = eq-eqb t t refl in
-    let least = first_least p 0 (entry_count list) i (omega arith) (omega arith) here in
-    count_once p (entry_count list) (entry_of list t) i once (omega (arith, least)) l (first_found p 0 (entry_count list) (omega (arith, least))) here
+-- one that passes counts
+counted : {A : Type 0} (p : A → Bool) (xs : List A) (x : A) → Contains xs x → p x ≡ true → 1 ≤ count_by p xs
+counted p [] x (k, within, at) passes = absurd (omega arith)
+counted p (y ∷ ys) x (zero, within, at) passes = grind (arith, at, sum_by-cons (λ z. cond (p z) 1 0) y ys)
+counted p (y ∷ ys) x (suc k, within, at) passes =
+    grind (arith, counted p ys x (k, omega arith, at) passes, sum_by-cons (λ z. cond (p z) 1 0) y ys)
+
+-- the only one that passes is found
+found_alone : {A : Type 0} (p : A → Bool) (xs : List A) (x : A) → Contains xs x → p x ≡ true → count_by p xs ≤ 1 → find p xs ≡ Some x
+found_alone p [] x (k, within, at) passes once = absurd (omega arith)
+found_alone p (y ∷ ys) x (zero, within, at) passes once = grind (arith, at)
+found_alone p (y ∷ ys) x (suc k, within, at) passes once =
+    let here : Contains ys x = (k, omega arith, at) in
+    let rest = counted p ys x here passes in
+    let step = sum_by-cons (λ z. cond (p z) 1 0) y ys in
+    let other : p y ≡ false = grind (arith, rest, step) in
+    let fewer : count_by p ys ≤ 1 = grind (arith, step) in
+    grind (arith, other, found_alone p ys x here passes fewer)
 
 -- ---- its part
 
-part_length : (list : List ℕ) (flash : Part) (i : ℕ) → end_of (entry_at list i) ≤ length flash.content
-    → length (entry_part (entry_at list i) flash).content ≡ (entry_at list i).size
-part_length list flash i ends = length-take-le _ _ (simp length-drop (omega arith))
+part_length : (e : Entry) (flash : Part) → end_of e ≤ length flash.content → length (entry_part e flash).content ≡ e.size
+part_length e flash ends = grind (arith, common_steps)
 
--- no part is longer than the longest flash
-pub part_fits : (list : List ℕ) (flash : Part) (app : App) → length (app_part list flash app).content ≤ max_flash
-unfolding app_part
-part_fits list flash app = by (right list (length flash.content)) (ltb i (entry_count list)) refl refl
-  where
-    i : ℕ
-    i = entry_of list (subtype_of app)
-
-    by : (kept listed : Bool) → right list (length flash.content) ≡ kept → ltb i (entry_count list) ≡ listed
-        → length (cond (kept && listed) (entry_part (entry_at list i) flash) (record { place = flash.place; content = [] })).content ≤ max_flash
-    by true true r l =
-        let facts = right_is list (length flash.content) r in
-        let ends = (facts.entries i (ltb-true i (entry_count list) l)).ends in
-        omega (arith, part_length list flash i ends, ends, facts.flash)
-    by true false r l = omega arith
-    by false listed r l = omega arith
+contained : (P : Entry → Type 0) (es : List Entry) (e : Entry) → All P es → Contains es e → P e
+contained P es e all (k, within, at) = subst P at (all k e within)
 
 pub entry_parts : EntryParts
-unfolding EntryParts app_part
-entry_parts list flash i r l =
-    let facts = right_is list (length flash.content) r in
-    let t = (entry_at list i).subtype in
-    let k = (facts.entries i l).subtype in
-    let back = app_back (slot_count list) t k in
-    let at = the_entry list i l (listed_once list (length flash.content) t facts k) in
-    let same : app_part list flash (app_of t) ≡ entry_part (entry_at list i) flash = simp (r, back, at, lt-ltb i (entry_count list) l) in
-    record { same_subtype = back; same_part = same; whole = rw same (part_length list flash i (facts.entries i l).ends) }
+unfolding EntryParts app_part image_of entry_with times_listed
+entry_parts words flash e right listed =
+    let facts = right_is words (length flash.content) right in
+    let of_entry = contained (RightEntry (slot_count (entries_of words)) (length flash.content)) (entries_of words) e facts.entries.each listed in
+    let back = app_back (slot_count (entries_of words)) e.subtype of_entry.subtype in
+    let once = listed_once (entries_of words) (length flash.content) e.subtype facts.entries of_entry.subtype in
+    let found = found_alone (λ x. x.subtype == e.subtype) (entries_of words) e listed (grind (arith, nat_tests)) once in
+    let same : app_part words flash (app_of e.subtype) ≡ entry_part e flash = simp (right, back, found) in
+    record { same_subtype = back; same_part = same; whole = rw same (part_length e flash of_entry.ends); same_image = simp (back, found) }

@@ -1,11 +1,8 @@
 -- The definitions evaluated on short lists: some that keep the rules, and for each rule one that breaks it.
--- Assumes nothing.
-use Prim.Native.Nat.{ℕ, suc, zero, ◌+◌, ◌*◌}
-use mathlib.Core.Path.{◌≡◌, refl}
-use mathlib.Core.Bool.{true}
-use mathlib.Core.List.{List, [], ◌∷◌, ◌++◌, map}
-use lib.ListN.{replicate}
-use Rattle.partitions.specs.PartitionList.{every_below, count_below, right, checked}
+use Rattle.std.proofs.Common.{◌≡◌, refl, ℕ, suc, zero, ◌+◌, ◌*◌, true, List, [], ◌∷◌, ◌++◌, map, replicate}
+use Rattle.std.specs.List.{list_all, range_with_len}
+use Rattle.partitions.specs.PartitionList.{times_listed, slot_count, has_each_slot_once, all_keep_rules, is_apart_from_all, are_apart, keep_rules, is_right, has_factory, check}
+use Rattle.partitions.specs.Answer.{answer_of}
 
 -- an entry's three words
 abbrev entry : ℕ → ℕ → ℕ → List ℕ
@@ -18,27 +15,27 @@ slots_in_row (suc n) = slots_in_row n ++ entry (16 + n) (65536 * (n + 1)) 65536
 
 -- ---- right
 
-two_slots : (checked (slots_in_row 2) 196608).answer ≡ record { number = 0; values = 2 ∷ 0 ∷ [] }
-unfolding checked right every_below count_below
+two_slots : answer_of (check (slots_in_row 2) 196608) ≡ record { number = 0; values = 2 ∷ 0 ∷ [] }
+unfolding check is_right keep_rules times_listed slot_count has_each_slot_once all_keep_rules is_apart_from_all are_apart has_factory
 two_slots = refl
 
 -- factory last, the slots in another order, no room between the three, and the last ends with the flash
 factory_last :
-    (checked (entry 17 65536 65536 ++ entry 16 131072 131072 ++ entry 0 262144 4096) 266240).answer ≡ record { number = 0; values = 2 ∷ 1 ∷ [] }
-unfolding checked right every_below count_below
+    answer_of (check (entry 17 65536 65536 ++ entry 16 131072 131072 ++ entry 0 262144 4096) 266240) ≡ record { number = 0; values = 2 ∷ 1 ∷ [] }
+unfolding check is_right keep_rules times_listed slot_count has_each_slot_once all_keep_rules is_apart_from_all are_apart has_factory
 factory_last = refl
 
 -- every n from 2 to 16
-each_number_of_slots : every_below 15 (λ (k : ℕ). right (slots_in_row (2 + k)) 16777216) ≡ true
-unfolding right every_below count_below
+each_number_of_slots : list_all (λ n. is_right (slots_in_row n) 16777216) (range_with_len 2 15) ≡ true
+unfolding is_right keep_rules times_listed slot_count has_each_slot_once all_keep_rules is_apart_from_all are_apart
 each_number_of_slots = refl
 
-nine_slots : (checked (slots_in_row 9) 655360).answer ≡ record { number = 0; values = 9 ∷ 0 ∷ [] }
-unfolding checked right every_below count_below
+nine_slots : answer_of (check (slots_in_row 9) 655360) ≡ record { number = 0; values = 9 ∷ 0 ∷ [] }
+unfolding check is_right keep_rules times_listed slot_count has_each_slot_once all_keep_rules is_apart_from_all are_apart has_factory
 nine_slots = refl
 
-sixteen_slots : (checked (slots_in_row 16 ++ entry 0 0 4096) 16777216).answer ≡ record { number = 0; values = 16 ∷ 1 ∷ [] }
-unfolding checked right every_below count_below
+sixteen_slots : answer_of (check (slots_in_row 16 ++ entry 0 0 4096) 16777216) ≡ record { number = 0; values = 16 ∷ 1 ∷ [] }
+unfolding check is_right keep_rules times_listed slot_count has_each_slot_once all_keep_rules is_apart_from_all are_apart has_factory
 sixteen_slots = refl
 
 -- ---- refused, in the largest flash
@@ -66,10 +63,10 @@ refused_lists =
     ∷ (entry 16 65536 69632 ++ entry 17 131072 65536)
     ∷ []
 
-each_refused : map (λ (list : List ℕ). (checked list 16777216).answer) refused_lists ≡ replicate 15 (record { number = 1; values = [] })
-unfolding refused_lists checked right every_below count_below
+each_refused : map (λ (list : List ℕ). answer_of (check list 16777216)) refused_lists ≡ replicate 15 (record { number = 1; values = [] })
+unfolding refused_lists check is_right keep_rules times_listed slot_count has_each_slot_once all_keep_rules is_apart_from_all are_apart has_factory
 each_refused = refl
 
-flash_too_large : (checked (slots_in_row 2) 16777217).answer ≡ record { number = 1; values = [] }
-unfolding checked right every_below count_below
+flash_too_large : answer_of (check (slots_in_row 2) 16777217) ≡ record { number = 1; values = [] }
+unfolding check is_right keep_rules times_listed slot_count has_each_slot_once all_keep_rules is_apart_from_all are_apart has_factory
 flash_too_large = refl

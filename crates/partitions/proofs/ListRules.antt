@@ -1,72 +1,69 @@
--- Whether a list is right, as the code's tests decide it.
--- Assumes nothing.
-use Prim.Native.Nat.{ℕ, ◌+◌, ◌-◌, ◌*◌, ◌%◌, ◌<◌, ◌≤◌}
-use mathlib.Core.Path.{◌≡◌, ◌∙◌, refl}
-use mathlib.Core.Bool.{Bool, true, false, not}
-use mathlib.Core.List.{List}
-use mathlib.Core.Logic.{⊎_elim}
-use native.Mathlib.Omega.{arith}
-use lib.Dec.{eqb}
-use lib.ListN.{length}
-use borrow.Author.Tests.{eq-eqb, ne_eqb, le-leb, lt-leb, eqb-true, eqb-false, not-true, not-false}
-use Rattle.otadata.proofs.Booleans.{true_or_false}
-use Rattle.otadata.proofs.Numbers.{le_or_lt}
-use Rattle.partitions.specs.PartitionList.{entry_count, times_listed, factory_subtype, slot_count, max_slots, max_flash}
-use Rattle.partitions.specs.PartitionList.{each_slot_once, each_entry_right, no_two_overlap, slots_right, right}
+-- What the rules give of an accepted list.
+use Rattle.std.proofs.Common.{◌≡◌, refl, ℕ, ◌+◌, ◌/◌, ◌≤◌, ◌<◌, Bool, true, false, not, cond, List, [], ◌∷◌, Some, find, length, map, count_by, drop, zero, suc, Ok, arith}
+use Rattle.std.specs.List.{list_all}
+use Rattle.std.specs.Simd.{first_chunks}
+use Rattle.std.proofs.lemmas.Bool.Decides.{nat_tests}
+use Rattle.std.proofs.lemmas.Grind.{common_steps}
+use Rattle.std.proofs.lemmas.List.Sums.{sum_by-cons}
+use Rattle.partitions.specs.declared.TheConstants.{MAX_SLOTS, MAX_FLASH, MAX_WORDS}
+use Rattle.partitions.specs.declared.entry.Entry.{Entry}
+use Rattle.partitions.specs.Entry.{entry_of, end_of, entry_bytes, is_factory, keeps_rules}
+use Rattle.partitions.specs.PartitionList.{entries_of, keep_rules, slot_count, times_listed, entry_with, all_keep_rules, is_right, Partitions, list_of}
 
--- ---- the rules of the slots and of the entries
+-- n fits a u32
+pub slots_fit : (entries : List Entry) (capacity : ℕ) → keep_rules entries capacity ≡ true → slot_count entries ≤ MAX_SLOTS
+unfolding keep_rules
+slots_fit entries capacity keeps = grind (arith, nat_tests)
 
-module _ (list : List ℕ) (n capacity : ℕ) where
-  pub too_few : n < 2 → false ≡ slots_right list n capacity
-  too_few l = simp (lt-leb 2 n l)
+-- and there are two
+pub two_slots : (entries : List Entry) (capacity : ℕ) → keep_rules entries capacity ≡ true → 2 ≤ slot_count entries
+unfolding keep_rules
+two_slots entries capacity keeps = grind (arith, nat_tests)
 
-  module _ (two : 2 ≤ n) where
-    pub too_many : max_slots < n → false ≡ slots_right list n capacity
-    too_many l = simp (le-leb 2 n two, lt-leb n max_slots l)
+-- what each element passes, the found one passes
+found_passes : {A : Type 0} (p q : A → Bool) (xs : List A) (x : A) → find p xs ≡ Some x → list_all q xs ≡ true → q x ≡ true
+found_passes p q [] x found all = cc
+found_passes p q (y ∷ ys) x found all = grind (arith, found_passes p q ys x)
 
-    module _ (most : n ≤ max_slots) (o : Bool) (counted : o ≡ each_slot_once list n) where
-      pub not_each_once : not o ≡ true → false ≡ slots_right list n capacity
-      not_each_once e = simp (le-leb 2 n two, le-leb n max_slots most, ← counted, not-true o e)
+-- an entry of an accepted list ends within the flash
+pub entry_ends : (entries : List Entry) (capacity subtype : ℕ) (e : Entry)
+    → entry_with subtype entries ≡ Some e → keep_rules entries capacity ≡ true → end_of e ≤ capacity
+unfolding keep_rules entry_with all_keep_rules
+entry_ends entries capacity subtype e found keeps =
+    let right = found_passes _ (keeps_rules (slot_count entries) capacity) entries e found (grind (arith, nat_tests)) in
+    grind (arith, nat_tests)
 
-      module _ (once : not o ≡ false) (r : Bool) (tested : r ≡ each_entry_right list n capacity) where
-        pub not_each_right : not r ≡ true → false ≡ slots_right list n capacity
-        not_each_right e = simp (le-leb 2 n two, le-leb n max_slots most, ← counted, not-false o once, ← tested, not-true r e)
+-- no entry of an accepted list has more bytes than the longest flash
+pub bytes_fit : (entries : List Entry) (flash : List ℕ) (e : Entry) → keep_rules entries (length flash) ≡ true → length (entry_bytes e flash) ≤ MAX_FLASH
+unfolding keep_rules
+bytes_fit entries flash e keeps =
+    let fits : length flash ≤ MAX_FLASH = grind (arith, nat_tests) in
+    grind (arith, common_steps, fits)
 
-        pub overlap_decides : not r ≡ false → (a : Bool) → a ≡ no_two_overlap list → a ≡ slots_right list n capacity
-        overlap_decides e a compared =
-            simp (le-leb 2 n two, le-leb n max_slots most, ← counted, not-false o once, ← tested, not-false r e, ← compared)
+-- the same of the words
+pub part_fits : (words flash : List ℕ) (list : Partitions) (e : Entry) → list_of words flash ≡ Ok list → length (entry_bytes e flash) ≤ MAX_FLASH
+unfolding list_of is_right
+part_fits words flash list e accepted = by (is_right words (length flash)) refl
+  where
+    by : (right : Bool) → is_right words (length flash) ≡ right → length (entry_bytes e flash) ≤ MAX_FLASH
+    by true right = bytes_fit (entries_of words) flash e (grind (arith, nat_tests))
+    by false right = grind (arith, accepted, right)
 
--- ---- the whole list
+-- ---- a list that is too long
 
-module _ (list : List ℕ) (capacity : ℕ) where
-  pub too_large : max_flash < capacity → false ≡ right list capacity
-  unfolding right
-  too_large l = simp (lt-leb capacity max_flash l)
+-- each element passes a test or its negation
+all_counted : {A : Type 0} (p : A → Bool) (xs : List A) → count_by p xs + count_by (λ x. not (p x)) xs ≡ length xs
+all_counted p [] = refl
+all_counted p (x ∷ xs) =
+    grind (arith, all_counted p xs, sum_by-cons (λ y. cond (p y) 1 0) x xs, sum_by-cons (λ y. cond (not (p y)) 1 0) x xs)
 
-  module _ (fits : capacity ≤ max_flash) where
-    pub broken : (length list % 3 ≡ 0 → ⊥) → false ≡ right list capacity
-    unfolding right
-    broken n = simp (le-leb capacity max_flash fits, ne_eqb (length list % 3) 0 n)
+length_chunks : (n k : ℕ) (xs : List ℕ) → length (map entry_of (first_chunks n k xs)) ≡ k
+length_chunks n zero xs = refl
+length_chunks n (suc k) xs = grind (arith, length_chunks n k (drop n xs))
 
-    module _ (whole : length list % 3 ≡ 0) (f : ℕ) (counted : f ≡ times_listed list factory_subtype) where
-      pub factory_twice : 1 < f → false ≡ right list capacity
-      unfolding right
-      factory_twice l = simp (le-leb capacity max_flash fits, eq-eqb (length list % 3) 0 whole, ← counted, lt-leb f 1 l)
-
-      pub slots_decide : f ≤ 1 → (s : Bool) → s ≡ slots_right list (entry_count list - f) capacity → s ≡ right list capacity
-      unfolding right
-      slots_decide l s tested = tested ∙ simp (le-leb capacity max_flash fits, eq-eqb (length list % 3) 0 whole, ← counted, le-leb f 1 l)
-
-    -- a list of more words has too many slots, or breaks another rule
-    pub too_long : 3 * (max_slots + 1) < length list → false ≡ right list capacity
-    too_long l =
-        ⊎_elim
-        (λ (w : eqb (length list % 3) 0 ≡ true).
-        let whole = eqb-true (length list % 3) 0 w in
-        let f = times_listed list factory_subtype in
-        ⊎_elim
-        (λ (m : f ≤ 1). too_many list (slot_count list) capacity (omega arith) (omega arith) ∙ slots_decide whole f refl m _ refl)
-        (λ (m : 1 < f). factory_twice whole f refl m)
-        (le_or_lt f 1))
-        (λ (w : eqb (length list % 3) 0 ≡ false). broken (eqb-false (length list % 3) 0 w))
-        (true_or_false (eqb (length list % 3) 0))
+-- a list of more words has too many slots, or breaks another rule
+pub too_long : (words : List ℕ) (capacity : ℕ) → MAX_WORDS < length words → is_right words capacity ≡ false
+unfolding is_right keep_rules slot_count times_listed
+too_long words capacity long =
+    let entries = entries_of words in
+    grind (arith, nat_tests, all_counted is_factory entries, length_chunks 3 (length words / 3) words)

@@ -1,134 +1,114 @@
--- A list is right exactly where document 01's rules hold of it, both ways.
--- Assumes nothing.
-use Prim.Native.Nat.{ℕ, ◌%◌, ◌<◌, ◌≤◌}
-use mathlib.Core.Path.{◌≡◌}
-use mathlib.Core.Bool.{true, not, ◌&&◌}
-use mathlib.Core.List.{List}
-use mathlib.Core.Logic.{inl, inr, ⊎_elim}
-use native.Mathlib.Omega.{arith}
-use lib.Dec.{eqb, leb, ltb}
-use lib.ListN.{length}
-use borrow.Author.Tests.{eq-eqb, ne_eqb, lt-ltb, le-ltb, le-leb, eqb-true, eqb-false, leb-true, ltb-true, not-true}
-use Rattle.otadata.proofs.Booleans.{both, either, true_is_not_false}
-use Rattle.otadata.proofs.Numbers.{le_or_lt}
-use Rattle.partitions.specs.PartitionList.{Entry, entry_count, entry_at, end_of, times_listed, factory_subtype, slot_subtype, slot_count, max_slots, max_flash}
-use Rattle.partitions.specs.PartitionList.{known, entry_right, overlap, slot_once, right_at, apart, no_overlap_before}
-use Rattle.partitions.specs.PartitionList.{each_slot_once, each_entry_right, no_two_overlap, slots_right, right}
-use Rattle.partitions.specs.RightList.{FactoryOrSlot, Holds, RightEntry, RightList, RightMeans}
-use Rattle.partitions.proofs.Below.{every_at, every_all}
-
--- ---- a subtype
-
-known_means : (n t : ℕ) → known n t ≡ true → FactoryOrSlot n t
-known_means n t k =
-    ⊎_elim
-    (λ (f : eqb t factory_subtype ≡ true). inl (eqb-true t factory_subtype f))
-    (λ (s : (leb (slot_subtype 0) t && ltb t (slot_subtype n)) ≡ true).
-    let range = both (leb (slot_subtype 0) t) (ltb t (slot_subtype n)) s in
-    inr (leb-true _ _ range.0, ltb-true _ _ range.1))
-    (either (eqb t factory_subtype) (leb (slot_subtype 0) t && ltb t (slot_subtype n)) k)
-
-known_from : (n t : ℕ) → FactoryOrSlot n t → known n t ≡ true
-known_from n t (inl f) = simp (eq-eqb t factory_subtype f)
-known_from n t (inr s) = simp (ne_eqb t factory_subtype (λ (z : t ≡ 0). omega arith), le-leb _ _ s.0, lt-ltb _ _ s.1)
+-- A list is right exactly where the rules hold of it, both ways.
+use Rattle.std.proofs.Common.{◌≡◌, refl, ℕ, ◌+◌, ◌≤◌, ◌<◌, zero, suc, true, ◌&&◌, ◌||◌, ◌==◌, nat_le, nat_lt, List, [], ◌∷◌, All, AllPairs, slice_index_or, arith}
+use Rattle.std.specs.List.{range_with_len}
+use Rattle.std.proofs.lemmas.Bool.{or_cases}
+use Rattle.std.proofs.lemmas.Bool.Decides.{nat_tests}
+use Rattle.std.proofs.lemmas.List.Sums.{AllPass-from_list_all, list_all-from_AllPass}
+use Rattle.std.proofs.lemmas.List.FromFn.{length-range_with_len, get_or-range_with_len}
+use Rattle.partitions.specs.declared.TheConstants.{MAX_FLASH}
+use Rattle.partitions.specs.declared.entry.TheConstants.{FACTORY, FIRST_SLOT}
+use Rattle.partitions.specs.declared.entry.Entry.{Entry}
+use Rattle.partitions.specs.Entry.{keeps_rules, is_apart_from}
+use Rattle.partitions.specs.PartitionList.{entries_of, times_listed, slot_count, has_each_slot_once, all_keep_rules, is_apart_from_all, are_apart, keep_rules, is_right}
+use Rattle.partitions.specs.RightList.{FactoryOrSlot, ShareNoByte, RightEntry, RightEntries, RightList, RightMeans}
 
 -- ---- an entry
 
-module _ (n capacity : ℕ) (e : Entry) where
-  entry_means : entry_right n capacity e ≡ true → RightEntry n capacity e
-  entry_means r =
-      let know = known n e.subtype in
-      let block = eqb (e.offset % 65536) 0 in
-      let full = not (eqb e.size 0) in
-      let sectors = eqb (e.size % 4096) 0 in
-      let last = both (know && (block && full && sectors)) (leb (end_of e) capacity) r in
-      let rest = both know (block && full && sectors) last.0 in
-      let third = both (block && full) sectors rest.1 in
-      let second = both block full third.0 in
-      let some = eqb-false e.size 0 (not-true (eqb e.size 0) second.1) in
-      record {
-        subtype = known_means n e.subtype rest.0;
-        offset = eqb-true _ _ second.0;
-        nonzero = omega (arith, some);
-        size = eqb-true _ _ third.1;
-        ends = leb-true _ _ last.1;
-      }
+known_means : (n t : ℕ) → ((t == FACTORY) || (nat_le FIRST_SLOT t && nat_lt t (FIRST_SLOT + n))) ≡ true → FactoryOrSlot n t
+known_means n t known = grind (arith, nat_tests, or_cases (t == FACTORY) (nat_le FIRST_SLOT t && nat_lt t (FIRST_SLOT + n)) known)
 
-  entry_from : RightEntry n capacity e → entry_right n capacity e ≡ true
-  entry_from r =
-      simp (
-        known_from n e.subtype r.subtype,
-        eq-eqb _ _ r.offset,
-        ne_eqb e.size 0 (λ (z : e.size ≡ 0). omega arith),
-        eq-eqb _ _ r.size,
-        le-leb _ _ r.ends,
-      )
+entry_means : (n capacity : ℕ) (e : Entry) → keeps_rules n capacity e ≡ true → RightEntry n capacity e
+entry_means n capacity e keeps =
+    record {
+      subtype = known_means n e.subtype (grind (arith, nat_tests));
+      offset = grind (arith, nat_tests);
+      nonzero = grind (arith, nat_tests);
+      size = grind (arith, nat_tests);
+      ends = grind (arith, nat_tests);
+    }
+
+entry_from : (n capacity : ℕ) (e : Entry) → RightEntry n capacity e → keeps_rules n capacity e ≡ true
+entry_from n capacity e right = grind (arith, nat_tests, right.subtype, right.offset, right.nonzero, right.size, right.ends)
 
 -- ---- two entries
 
 module _ (a b : Entry) where
-  apart_means : not (overlap a b) ≡ true → (x : ℕ) → Holds a x → Holds b x → ⊥
-  apart_means n x ha hb =
-      let both_hold : overlap a b ≡ true = simp (lt-ltb a.offset (end_of b) (omega arith), lt-ltb b.offset (end_of a) (omega arith)) in
-      true_is_not_false (overlap a b) both_hold (not-true (overlap a b) n)
+  apart_means : is_apart_from a b ≡ true → ShareNoByte a b
+  apart_means apart x in_a in_b = grind (arith, nat_tests, in_a.0, in_a.1, in_b.0, in_b.1)
 
   -- of entries that hold a byte, the later offset is in both where they overlap
-  apart_from : 0 < a.size → 0 < b.size → ((x : ℕ) → Holds a x → Holds b x → ⊥) → not (overlap a b) ≡ true
-  apart_from sa sb none =
-      ⊎_elim
-      (λ (l : end_of b ≤ a.offset). simp (le-ltb a.offset (end_of b) l))
-      (λ (l : a.offset < end_of b).
-      ⊎_elim
-      (λ (m : end_of a ≤ b.offset). simp (le-ltb b.offset (end_of a) m, lt-ltb a.offset (end_of b) l))
-      (λ (m : b.offset < end_of a).
-      ⊎_elim
-      (λ (o : a.offset ≤ b.offset). absurd (none b.offset (o, m) (omega arith, omega arith)))
-      (λ (o : b.offset < a.offset). absurd (none a.offset (omega arith, omega arith) (omega arith, l)))
-      (le_or_lt a.offset b.offset))
-      (le_or_lt (end_of a) b.offset))
-      (le_or_lt (end_of b) a.offset)
+  apart_from : 0 < a.size → 0 < b.size → ShareNoByte a b → is_apart_from a b ≡ true
+  apart_from some_a some_b none = grind (arith, nat_tests, none a.offset, none b.offset)
+
+-- ---- all entries
+
+pairs_mean : (es : List Entry) → are_apart es ≡ true → AllPairs ShareNoByte es
+unfolding are_apart is_apart_from_all
+pairs_mean [] apart i j d before within = absurd (omega arith)
+pairs_mean (e ∷ es) apart i zero d before within = absurd (omega arith)
+pairs_mean (e ∷ es) apart zero (suc j) d before within =
+    apart_means e (slice_index_or es j d) (AllPass-from_list_all (is_apart_from e) es (grind (arith, nat_tests)) j d (omega arith))
+pairs_mean (e ∷ es) apart (suc i) (suc j) d before within = pairs_mean es (grind (arith, nat_tests)) i j d (omega arith) (omega arith)
+
+pairs_from : (es : List Entry) → All (λ e. 0 < e.size) es → AllPairs ShareNoByte es → are_apart es ≡ true
+unfolding are_apart is_apart_from_all
+pairs_from [] some none = refl
+pairs_from (e ∷ es) some none =
+    let first =
+    list_all-from_AllPass (is_apart_from e) es
+    (λ k d l. apart_from e (slice_index_or es k d) (some 0 e (omega arith)) (some (suc k) d (omega arith)) (none 0 (suc k) d (omega arith) (omega arith))) in
+    let rest = pairs_from es (λ k d l. some (suc k) d (omega arith)) (λ i j d l m. none (suc i) (suc j) d (omega arith) (omega arith)) in
+    grind (arith, first, rest)
 
 -- ---- the list
 
-module _ (list : List ℕ) (capacity : ℕ) where
-  pub right_is : right list capacity ≡ true → RightList list capacity
-  unfolding right
-  right_is e =
-      let n = slot_count list in
-      let small = leb capacity max_flash in
-      let whole = eqb (length list % 3) 0 in
-      let once = leb (times_listed list factory_subtype) 1 in
-      let last = both (small && whole && once) (slots_right list n capacity) e in
-      let third = both (small && whole) once last.0 in
-      let first = both small whole third.0 in
-      let apart5 = both (leb 2 n && leb n max_slots && each_slot_once list n && each_entry_right list n capacity) (no_two_overlap list) last.1 in
-      let right4 = both (leb 2 n && leb n max_slots && each_slot_once list n) (each_entry_right list n capacity) apart5.0 in
-      let once3 = both (leb 2 n && leb n max_slots) (each_slot_once list n) right4.0 in
-      let range = both (leb 2 n) (leb n max_slots) once3.0 in
+module _ (es : List Entry) (capacity : ℕ) where
+  slots_mean : has_each_slot_once (slot_count es) es ≡ true → (s : ℕ) → s < slot_count es → times_listed (FIRST_SLOT + s) es ≡ 1
+  unfolding has_each_slot_once
+  slots_mean once s below =
+      let at = AllPass-from_list_all (λ k. times_listed (FIRST_SLOT + k) es == 1) (range_with_len 0 (slot_count es)) once s 0 (omega (arith, length-range_with_len 0 (slot_count es))) in
+      grind (arith, nat_tests, at, get_or-range_with_len 0 (slot_count es) s 0 below)
+
+  slots_from : ((s : ℕ) → s < slot_count es → times_listed (FIRST_SLOT + s) es ≡ 1) → has_each_slot_once (slot_count es) es ≡ true
+  unfolding has_each_slot_once
+  slots_from once =
+      list_all-from_AllPass (λ k. times_listed (FIRST_SLOT + k) es == 1) (range_with_len 0 (slot_count es))
+      (λ s d l.
+      let below : s < slot_count es = omega (arith, length-range_with_len 0 (slot_count es)) in
+      grind (arith, nat_tests, once s below, get_or-range_with_len 0 (slot_count es) s d below))
+
+  entries_mean : keep_rules es capacity ≡ true → RightEntries es capacity
+  unfolding keep_rules all_keep_rules
+  entries_mean keeps =
       record {
-        triples = eqb-true _ _ first.1;
-        factory = leb-true _ _ third.1;
-        least = leb-true _ _ range.0;
-        most = leb-true _ _ range.1;
-        slots = λ (s : ℕ) (l : s < n). eqb-true _ _ (every_at (slot_once list) n s once3.1 l);
-        entries = λ (i : ℕ) (l : i < entry_count list). entry_means n capacity (entry_at list i) (every_at (right_at list n capacity) (entry_count list) i right4.1 l);
-        separate = λ (i j : ℕ) (l : i < j) (m : j < entry_count list).
-            apart_means (entry_at list i) (entry_at list j)
-            (every_at (apart list j) j i (every_at (no_overlap_before list) (entry_count list) j apart5.1 m) l);
-        flash = leb-true _ _ first.0;
+        factory = grind (arith, nat_tests);
+        least = grind (arith, nat_tests);
+        most = grind (arith, nat_tests);
+        slots = slots_mean (grind (arith, nat_tests));
+        each = λ k d l. entry_means (slot_count es) capacity (slice_index_or es k d) (AllPass-from_list_all (keeps_rules (slot_count es) capacity) es (grind (arith, nat_tests)) k d l);
+        separate = pairs_mean es (grind (arith, nat_tests));
       }
 
-  is_then_right : RightList list capacity → right list capacity ≡ true
-  unfolding right
-  is_then_right r =
-      let n = slot_count list in
-      let slots : each_slot_once list n ≡ true = every_all (slot_once list) n (λ (s : ℕ) (l : s < n). eq-eqb _ _ (r.slots s l)) in
-      let entries : each_entry_right list n capacity ≡ true = every_all (right_at list n capacity) (entry_count list) (λ (i : ℕ) (l : i < entry_count list). entry_from n capacity (entry_at list i) (r.entries i l)) in
-      let separate : no_two_overlap list ≡ true = every_all (no_overlap_before list) (entry_count list) (λ (j : ℕ) (m : j < entry_count list).
-      every_all (apart list j) j (λ (i : ℕ) (l : i < j).
-      apart_from (entry_at list i) (entry_at list j) (r.entries i (omega arith)).nonzero (r.entries j m).nonzero (r.separate i j l m))) in
-      simp (le-leb _ _ r.flash, eq-eqb _ _ r.triples, le-leb _ _ r.factory, le-leb _ _ r.least, le-leb _ _ r.most, slots, entries, separate)
+  entries_from : RightEntries es capacity → capacity ≤ MAX_FLASH → keep_rules es capacity ≡ true
+  unfolding keep_rules all_keep_rules
+  entries_from right fits =
+      let each = list_all-from_AllPass (keeps_rules (slot_count es) capacity) es (λ k d l. entry_from (slot_count es) capacity (slice_index_or es k d) (right.each k d l)) in
+      let apart = pairs_from es (λ k d l. (right.each k d l).nonzero) right.separate in
+      grind (arith, nat_tests, right.factory, right.least, right.most, slots_from right.slots, each, apart)
+
+pub right_is : (words : List ℕ) (capacity : ℕ) → is_right words capacity ≡ true → RightList words capacity
+unfolding is_right keep_rules
+right_is words capacity right =
+    record {
+      triples = grind (arith, nat_tests);
+      entries = entries_mean (entries_of words) capacity (grind (arith, nat_tests));
+      flash = grind (arith, nat_tests);
+    }
+
+is_then_right : (words : List ℕ) (capacity : ℕ) → RightList words capacity → is_right words capacity ≡ true
+unfolding is_right
+is_then_right words capacity right = grind (arith, nat_tests, right.triples, entries_from (entries_of words) capacity right.entries right.flash)
 
 pub right_means : RightMeans
 unfolding RightMeans
-right_means list capacity = (right_is list capacity, is_then_right list capacity)
+right_means words capacity = (right_is words capacity, is_then_right words capacity)

@@ -1,181 +1,121 @@
--- The partition list: its entries, the rules that it keeps, and the part of the flash that belongs to an app.
-use Rattle.std.specs.Prelude.{ℕ, zero, suc, ◌+◌, ◌-◌, ◌*◌, ◌/◌, ◌%◌, ◌<◌, ◌≡◌, Bool, true, cond, not, ◌&&◌, ◌||◌, List, [], ◌∷◌, eqb, leb, ltb, length, get_or, take, drop}
-use Rattle.otadata.specs.Answers.{Answer, Answered, answers}
-use Rattle.sectors.specs.Sectors.{Part}
-use Rattle.partitions.specs.declared.App.{App}
-use Rattle.partitions.specs.declared.App.TheVariants.{Factory, OtaSlot}
-use Rattle.partitions.specs.declared.Checked.{Checked}
-use Rattle.partitions.specs.declared.Checked.TheVariants.{Refused, Accepted}
+-- The partition list: the rules that it keeps, and the part of the flash that belongs to an app.
+use Rattle.std.specs.Prelude.{ℕ, ◌+◌, ◌/◌, ◌%◌, Bool, true, not, ◌&&◌, ◌==◌, nat_le, List, [], ◌∷◌, length, map, count_by, find, Option, Some, None, option_map, Result, Ok, Err, if◌then◌else◌}
+use Rattle.std.specs.List.{list_all, list_any, range_with_len}
+use Rattle.std.specs.Simd.{first_chunks}
+use Rattle.sectors.specs.Part.{Part}
+use Rattle.partitions.specs.declared.TheConstants.{MAX_SLOTS, MAX_FLASH}
+use Rattle.partitions.specs.declared.entry.TheConstants.{FACTORY, FIRST_SLOT}
+use Rattle.partitions.specs.declared.entry.Entry.{Entry}
+use Rattle.partitions.specs.declared.list.App.{App}
+use Rattle.partitions.specs.declared.list.App.TheVariants.{Factory, OtaSlot}
+use Rattle.partitions.specs.declared.list.BadList.{BadList}
+use Rattle.partitions.specs.declared.parts.Listing.{Listing}
+use Rattle.partitions.specs.Entry.{entry_of, is_factory, keeps_rules, is_apart_from, entry_bytes, entry_part}
 
--- ---- of the numbers below k: whether each is so, how many are so, and which is the first
+-- a list that keeps its rules, and the flash that it speaks of
+pub record Partitions : Type 0 where
+  pub entries : List Entry
+  pub flash : List ℕ
 
-unfoldable pub every_below : ℕ → (ℕ → Bool) → Bool
-every_below zero p = true
-every_below (suc k) p = every_below k p && p k
-
-unfoldable pub count_below : ℕ → (ℕ → Bool) → ℕ
-count_below zero p = 0
-count_below (suc k) p = count_below k p + cond (p k) 1 0
-
--- the first of the k numbers from i on, or the number after them
-unfoldable pub first_from : ℕ → ℕ → (ℕ → Bool) → ℕ
-first_from i zero p = i
-first_from i (suc k) p = cond (p i) i (first_from (i + 1) k p)
-
--- ---- the entries: triples of subtype, offset, size
-
-pub record Entry : Type 0 where
-  pub subtype : ℕ
-  pub offset : ℕ
-  pub size : ℕ
-
-abbrev pub entry_count : List ℕ → ℕ
-entry_count list = length list / 3
-
-abbrev pub entry_at : List ℕ → ℕ → Entry
-entry_at list i = record { subtype = get_or list (3 * i) 0; offset = get_or list (3 * i + 1) 0; size = get_or list (3 * i + 2) 0 }
-
--- the place after its last byte
-abbrev pub end_of : Entry → ℕ
-end_of e = e.offset + e.size
-
--- factory is subtype 0; the OTA slots are 16 and up
-abbrev pub factory_subtype : ℕ
-factory_subtype = 0
-
-abbrev pub slot_subtype : ℕ → ℕ
-slot_subtype s = 16 + s
-
--- entry i is of subtype t
-abbrev pub has_subtype : List ℕ → ℕ → ℕ → Bool
-has_subtype list t i = eqb (entry_at list i).subtype t
-
--- how often a subtype is listed
-abbrev pub times_listed : List ℕ → ℕ → ℕ
-times_listed list t = count_below (entry_count list) (has_subtype list t)
-
--- n, the number of OTA slots: every entry but factory is one
-abbrev pub slot_count : List ℕ → ℕ
-slot_count list = entry_count list - times_listed list factory_subtype
+-- the triples of the words
+abbrev pub entries_of : List ℕ → List Entry
+entries_of words = map entry_of (first_chunks 3 (length words / 3) words)
 
 -- ---- the rules
 
--- n is from 2 to 16 (document 02, order 4)
-abbrev pub max_slots : ℕ
-max_slots = 16
+-- how often a subtype is listed
+unfoldable pub times_listed : ℕ → List Entry → ℕ
+times_listed subtype entries = count_by (λ e. e.subtype == subtype) entries
 
--- a flash has at most 16,777,216 bytes
-abbrev pub max_flash : ℕ
-max_flash = 16777216
+-- n: every entry but factory is a slot
+unfoldable pub slot_count : List Entry → ℕ
+slot_count entries = count_by (λ e. not (is_factory e)) entries
 
--- no other subtype than factory and the n slots
-abbrev pub known : ℕ → ℕ → Bool
-known n t = eqb t factory_subtype || (leb (slot_subtype 0) t && ltb t (slot_subtype n))
+-- each of n slots is listed exactly once
+unfoldable pub has_each_slot_once : ℕ → List Entry → Bool
+has_each_slot_once n entries = list_all (λ s. times_listed (FIRST_SLOT + s) entries == 1) (range_with_len 0 n)
 
--- offsets are multiples of 65,536, sizes nonzero multiples of 4,096
-abbrev pub aligned : ℕ → ℕ → Bool
-aligned offset size = eqb (offset % 65536) 0 && not (eqb size 0) && eqb (size % 4096) 0
+-- each entry keeps the rules of one entry
+unfoldable pub all_keep_rules : ℕ → ℕ → List Entry → Bool
+all_keep_rules n capacity entries = list_all (keeps_rules n capacity) entries
 
--- the rules of one entry: it also ends within the flash
-abbrev pub entry_right : ℕ → ℕ → Entry → Bool
-entry_right n capacity e = known n e.subtype && aligned e.offset e.size && leb (end_of e) capacity
+-- none of the entries shares a byte with this one
+unfoldable pub is_apart_from_all : Entry → List Entry → Bool
+is_apart_from_all e es = list_all (is_apart_from e) es
 
--- the two share a byte
-abbrev pub overlap : Entry → Entry → Bool
-overlap a b = ltb a.offset (end_of b) && ltb b.offset (end_of a)
+-- no two overlap
+unfoldable pub are_apart : List Entry → Bool
+are_apart [] = true
+are_apart (e ∷ es) = is_apart_from_all e es && are_apart es
 
--- slot s is listed exactly once
-abbrev pub slot_once : List ℕ → ℕ → Bool
-slot_once list s = eqb (times_listed list (slot_subtype s)) 1
+-- the flash not too long, factory at most once, n from 2 to the most, each slot once, each entry right, no two overlapping
+unfoldable pub keep_rules : List Entry → ℕ → Bool
+keep_rules entries capacity =
+    let n = slot_count entries in
+    nat_le capacity MAX_FLASH
+    && nat_le (times_listed FACTORY entries) 1
+    && nat_le 2 n
+    && nat_le n MAX_SLOTS
+    && has_each_slot_once n entries
+    && all_keep_rules n capacity entries
+    && are_apart entries
 
--- each of the n slots is
-abbrev pub each_slot_once : List ℕ → ℕ → Bool
-each_slot_once list n = every_below n (slot_once list)
+-- the words are a right list for a flash of that many bytes: no triple is broken, and the entries keep the rules
+unfoldable pub is_right : List ℕ → ℕ → Bool
+is_right words capacity = (length words % 3 == 0) && keep_rules (entries_of words) capacity
 
--- entry i keeps the rules of an entry
-abbrev pub right_at : List ℕ → ℕ → ℕ → ℕ → Bool
-right_at list n capacity i = entry_right n capacity (entry_at list i)
+-- ---- the test of a list
 
-abbrev pub each_entry_right : List ℕ → ℕ → ℕ → Bool
-each_entry_right list n capacity = every_below (entry_count list) (right_at list n capacity)
+-- the entries of a right list
+unfoldable pub right_entries : List ℕ → ℕ → Result (List Entry) BadList
+right_entries words capacity = if is_right words capacity then Ok (entries_of words) else Err (record {})
 
--- entries i and j share no byte
-abbrev pub apart : List ℕ → ℕ → ℕ → Bool
-apart list j i = not (overlap (entry_at list i) (entry_at list j))
+-- the list of the words, with the flash
+unfoldable pub list_of : List ℕ → List ℕ → Result Partitions BadList
+list_of words flash =
+    if is_right words (length flash)
+    then Ok (record { entries = entries_of words; flash = flash })
+    else Err (record {})
 
--- no entry before j overlaps entry j
-abbrev pub no_overlap_before : List ℕ → ℕ → Bool
-no_overlap_before list j = every_below j (apart list j)
+-- factory is listed
+unfoldable pub has_factory : List Entry → Bool
+has_factory entries = list_any is_factory entries
 
--- over every j: no two overlap
-abbrev pub no_two_overlap : List ℕ → Bool
-no_two_overlap list = every_below (entry_count list) (no_overlap_before list)
-
--- n slots, each listed once, and all entries right
-abbrev pub slots_right : List ℕ → ℕ → ℕ → Bool
-slots_right list n capacity =
-    leb 2 n
-    && leb n max_slots
-    && each_slot_once list n
-    && each_entry_right list n capacity
-    && no_two_overlap list
-
--- the list and the flash's capacity keep document 01's rules: no broken triple, factory at most once, and n slots, where n counts the others
-unfoldable pub right : List ℕ → ℕ → Bool
-right list capacity =
-    leb capacity max_flash
-    && eqb (length list % 3) 0
-    && leb (times_listed list factory_subtype) 1
-    && slots_right list (slot_count list) capacity
-
--- the view of an answer: the number of slots, and 1 where factory is listed, of an accepted list
-abbrev pub view : Checked → Answer
-view (Refused number) = record { number = number; values = [] }
-view (Accepted listing) = record { number = 0; values = listing.slots ∷ cond listing.factory 1 0 ∷ [] }
-
--- 0 with the number of slots and whether factory is listed, or 1
-unfoldable pub checked : List ℕ → ℕ → Answered Checked
-checked list capacity =
-    let factory = eqb (times_listed list factory_subtype) 1 in
-    cond (right list capacity)
-    (answers 0 (slot_count list ∷ cond factory 1 0 ∷ []) (Accepted (record { slots = slot_count list; factory = factory })))
-    (answers 1 [] (Refused 1))
+-- what a right list holds
+unfoldable pub check : List ℕ → ℕ → Result Listing BadList
+check words capacity =
+    let entries = entries_of words in
+    if is_right words capacity
+    then Ok (record { slots = slot_count entries; factory = has_factory entries })
+    else Err (record {})
 
 -- ---- the part of the flash that belongs to an app
 
+-- the subtype that lists an app
 abbrev pub subtype_of : App → ℕ
-subtype_of Factory = factory_subtype
-subtype_of (OtaSlot s) = slot_subtype s.0
+subtype_of Factory = FACTORY
+subtype_of (OtaSlot slot) = FIRST_SLOT + slot.0
 
--- the place of the first entry of a subtype in the list, or the number of entries where it is not listed
-abbrev pub entry_of : List ℕ → ℕ → ℕ
-entry_of list t = first_from 0 (entry_count list) (has_subtype list t)
+-- the first entry of a subtype, if it is listed
+unfoldable pub entry_with : ℕ → List Entry → Option Entry
+entry_with subtype entries = find (λ e. e.subtype == subtype) entries
 
--- the bytes of an entry, as a part of the flash
-abbrev pub entry_part : Entry → Part → Part
-entry_part e flash = record { place = (flash.place.0, flash.place.1 + e.offset); content = take e.size (drop e.offset flash.content) }
+-- exactly the bytes of an app's entry, if it is listed
+unfoldable pub image_of : Partitions → App → Option (List ℕ)
+image_of list app = option_map (λ e. entry_bytes e list.flash) (entry_with (subtype_of app) list.entries)
 
--- exactly the entry's part of the flash. Empty where the app is not listed, and where the list is not right
+-- no byte, at the start of the flash
+abbrev pub empty_part : Part → Part
+empty_part flash = record { place = flash.place; content = [] }
+
+-- the part of an entry, if there is one
+abbrev pub part_or_empty : Option Entry → Part → Part
+part_or_empty (Some e) flash = entry_part e flash
+part_or_empty None flash = empty_part flash
+
+-- exactly the part of an app's entry; empty where the list is refused or the app is not listed
 unfoldable pub app_part : List ℕ → Part → App → Part
-app_part list flash app =
-    cond (right list (length flash.content) && ltb (entry_of list (subtype_of app)) (entry_count list))
-    (entry_part (entry_at list (entry_of list (subtype_of app))) flash)
-    (record { place = flash.place; content = [] })
-
--- ---- the law of the parts
-
--- the app of a subtype
-abbrev pub app_of : ℕ → App
-app_of t = cond (eqb t factory_subtype) Factory (OtaSlot (record { 0 = t - slot_subtype 0 }))
-
--- an app is that of entry i: it has the entry's subtype, and its part is exactly the entry's part of the flash, as long as the entry's size
-pub record AppOfEntry (list : List ℕ) (flash : Part) (i : ℕ) (app : App) : Type 0 where
-  pub same_subtype : subtype_of app ≡ (entry_at list i).subtype
-  pub same_part : app_part list flash app ≡ entry_part (entry_at list i) flash
-  pub whole : length (app_part list flash app).content ≡ (entry_at list i).size
-
--- of a right list, for every entry
-unfoldable pub EntryParts : Type 0
-EntryParts =
-    (list : List ℕ) (flash : Part) (i : ℕ)
-    → right list (length flash.content) ≡ true → i < entry_count list → AppOfEntry list flash i (app_of (entry_at list i).subtype)
+app_part words flash app =
+    if is_right words (length flash.content)
+    then part_or_empty (entry_with (subtype_of app) (entries_of words)) flash
+    else empty_part flash

@@ -1,40 +1,21 @@
+//! The partition list of a node: its rules, its slots, and the part of the flash that belongs to an app.
 #![tactic(auto)]
 
-// The partition list: its test, the number of slots, and the part of the flash that belongs to an app.
-mod entries;
+mod entry;
+mod laws;
 mod list;
+mod parts;
+mod rules;
 
-pub use list::{app_part, check};
-use otadata::Slot;
+pub use laws::{answer_number, entry_parts, right_means};
+pub use list::{App, BadList, PartitionList};
+pub use parts::{Listing, app_part, check};
 
-// The reply number of document 01 that this layer gives.
-pub const BAD_LIST: u32 = 1;
-
-// The most slots that a list may have, and the most words: three for each slot, and three for factory.
+/// The most slots that a list may have.
 pub const MAX_SLOTS: usize = 16;
 
+/// The most words that a list may have: three for each slot, and three for factory.
 pub const MAX_WORDS: usize = 3 * (MAX_SLOTS + 1);
 
-// The most bytes that a flash may have.
+/// The most bytes that a flash may have.
 pub const MAX_FLASH: usize = 16_777_216;
-
-// An app of the list.
-#[derive(Clone, Copy)]
-pub enum App {
-    Factory,
-    OtaSlot(Slot),
-}
-
-// What a list that keeps its rules holds.
-#[derive(Clone, Copy)]
-pub struct Listing {
-    pub slots: u32,
-    pub factory: bool,
-}
-
-// The answer to a list: refused with the number, or accepted.
-#[derive(Clone, Copy)]
-pub enum Checked {
-    Refused(u32),
-    Accepted(Listing),
-}

@@ -1,141 +1,131 @@
-// The list as a whole: whether it keeps document 01's rules, what it holds, and the part of the flash that belongs to an app.
-ghost use Rattle.std.specs.Prelude.{◌≡◌, ◌+◌, ◌*◌, ◌^◌, ◌≤◌, ◌<◌, length};
-ghost use Rattle.otadata.specs.Answers.{viewed};
-ghost use Rattle.sectors.specs.Sectors.{part};
-ghost use Rattle.partitions.specs.PartitionList.{slots_right, each_slot_once, each_entry_right, no_overlap_before, no_two_overlap};
-ghost use Rattle.partitions.specs.PartitionList.{right, view, checked, subtype_of, app_part};
+ghost use Rattle.std.specs.Prelude.{◌≡◌, ◌≤◌};
 
-use crate::entries::{
-    FACTORY, FIRST_SLOT, end_at, entry_of, entry_right, offset_at, overlap, times_listed,
-};
-use crate::{App, BAD_LIST, Checked, Listing, MAX_FLASH, MAX_SLOTS, MAX_WORDS};
+use crate::entry::{Entry, FACTORY, FIRST_SLOT};
+use crate::rules::{entry_with, has_factory, right_entries, slot_count};
+use otadata::{Numbered, Slot};
+use std::error::Error;
+use std::fmt;
+use std::marker::Model;
 
-// Tests a list, for a flash of that length.
-pub fn check(list: &[u32], capacity: usize) -> Checked
-    ensures { viewed view result ≡ checked list.now capacity }
-{
-    if !right(list, capacity) {
-        return Checked::Refused(BAD_LIST);
-    }
-    let factory = times_listed(list, FACTORY);
-    let slots = (list.len() / 3 - factory) as u32;
-    Checked::Accepted(Listing {
-        slots,
-        factory: factory == 1,
-    })
+/// An app that a list may name.
+#[derive(Clone, Copy, Debug, PartialEq, Eq)]
+pub enum App {
+    Factory,
+    OtaSlot(Slot),
 }
 
-// Whether the list and the flash length keep the rules. A list that is too long is not walked.
-fn right(list: &[u32], capacity: usize) -> bool
-    ensures { result ≡ right list.now capacity }
-{
-    if capacity > MAX_FLASH {
-        return false;
-    }
-    if list.len() > MAX_WORDS {
-        return false;
-    }
-    if list.len() % 3 != 0 {
-        return false;
-    }
-    let factory = times_listed(list, FACTORY);
-    if factory > 1 {
-        return false;
-    }
-    slots_right(list, list.len() / 3 - factory, capacity)
-}
+impl App {
+    ghost use Rattle.partitions.specs.PartitionList.{subtype_of};
 
-// Whether the rules of the slots and of the entries hold, with n slots.
-fn slots_right(list: &[u32], n: usize, capacity: usize) -> bool
-    ensures { result ≡ slots_right list.now n capacity }
-{
-    if n < 2 {
-        return false;
-    }
-    if n > MAX_SLOTS {
-        return false;
-    }
-    if !each_slot_once(list, n) {
-        return false;
-    }
-    if !each_entry_right(list, n, capacity) {
-        return false;
-    }
-    no_two_overlap(list)
-}
-
-// Whether each of n slots is listed exactly once.
-fn each_slot_once(list: &[u32], n: usize) -> bool
-    requires { n < 2 ^ 32 }
-    ensures { result ≡ each_slot_once list.now n }
-{
-    for s in 0..n {
-        if times_listed(list, FIRST_SLOT + s) != 1 {
-            return false;
+    /// The subtype that lists it.
+    fn subtype(self) -> u64
+        ensures { result ≡ subtype_of self }
+    {
+        match self {
+            App::Factory => u64::from(FACTORY),
+            App::OtaSlot(slot) => u64::from(FIRST_SLOT) + u64::from(slot.0),
         }
     }
-    true
 }
 
-// Whether each entry keeps the rules of an entry, with n slots.
-fn each_entry_right(list: &[u32], n: usize, capacity: usize) -> bool
-    ensures { result ≡ each_entry_right list.now n capacity }
-{
-    for i in 0..list.len() / 3 {
-        if !entry_right(list, i, n, capacity) {
-            return false;
-        }
+/// The refusal of a list, or of a flash length, that breaks the rules.
+#[derive(Clone, Copy, Debug, PartialEq, Eq)]
+pub struct BadList;
+
+impl Numbered for BadList {
+    ghost use Rattle.partitions.specs.Answer.{number_of};
+
+    ghost number = { number_of };
+
+    fn number(self) -> u32 {
+        1
     }
-    true
 }
 
-// Whether no two entries overlap.
-fn no_two_overlap(list: &[u32]) -> bool
-    ensures { result ≡ no_two_overlap list.now }
-{
-    for j in 0..list.len() / 3 {
-        if !no_overlap_before(list, j) {
-            return false;
-        }
+impl fmt::Display for BadList {
+    ghost use Rattle.std.specs.Prelude.{Some, codes};
+
+    ghost output = { λ _. Some (codes "bad partition list") };
+
+    fn fmt<W: fmt::Write>(&self, f: &mut fmt::Formatter<W>) -> fmt::Result {
+        f.write_str("bad partition list")
     }
-    true
 }
 
-// Whether no entry before j overlaps entry j.
-fn no_overlap_before(list: &[u32], j: usize) -> bool
-    requires { 3 * j + 3 ≤ length list.now }
-    ensures { result ≡ no_overlap_before list.now j }
-{
-    for i in 0..j {
-        if overlap(list, i, j) {
-            return false;
-        }
-    }
-    true
+impl Error for BadList {}
+
+/// A list that keeps its rules, with the flash that it speaks of.
+#[derive(Drop)]
+pub struct PartitionList<'a> {
+    entries: &'a [[u32; 3]],
+    flash: &'a [u8],
+    slots: u32,
 }
 
-// The part of the flash that belongs to an app: exactly its entry's. Empty where the list is refused, or the app is not listed.
-pub fn app_part<'a>(list: &[u32], flash: &'a [u8], app: App) -> &'a [u8]
-    ensures { part result ≡ app_part list.now (part flash.entry) app }
-{
-    if !right(list, flash.len()) {
-        return &flash[..0];
-    }
-    let i = entry_of(list, subtype_of(app));
-    if i >= list.len() / 3 {
-        return &flash[..0];
-    }
-    let offset = offset_at(list, i);
-    let end = end_at(list, i);
-    &flash[offset..end]
+impl<'a> Model for PartitionList<'a> {
+    ghost use Rattle.std.specs.Prelude.{◌≡◌, map, length, IsTrue};
+    ghost use Rattle.partitions.specs.Entry.{entry_of};
+    ghost use Rattle.partitions.specs.PartitionList.{Partitions, keep_rules, slot_count};
+
+    ghost Value = { Partitions };
+
+    ghost view = { λ l. record { entries = map entry_of l.entries.now; flash = l.flash.now } };
+
+    ghost invariant = { λ l. IsTrue (keep_rules (map entry_of l.entries.now) (length l.flash.now)) × (l.slots ≡ slot_count (map entry_of l.entries.now)) };
 }
 
-// The subtype that lists an app.
-fn subtype_of(app: App) -> usize
-    ensures { result ≡ subtype_of app }
-{
-    match app {
-        App::Factory => FACTORY,
-        App::OtaSlot(slot) => FIRST_SLOT + slot.0 as usize,
+impl<'a> PartitionList<'a> {
+    ghost use Rattle.std.specs.Prelude.{length, option_map, IfSome};
+    ghost use Rattle.partitions.specs.declared.TheConstants.{MAX_FLASH};
+    ghost use Rattle.partitions.specs.Entry.{end_of};
+    ghost use Rattle.partitions.specs.PartitionList.{list_of, slot_count, has_factory, entry_with, subtype_of, image_of};
+
+    /// The list of triples of subtype, offset and size, where it keeps its rules for the flash.
+    #[tactic(auto, using(crate::proofs::ListRules::slots_fit), unfolding(crate::specs::PartitionList::list_of, crate::specs::PartitionList::right_entries))]
+    pub fn new(words: &'a [u32], flash: &'a [u8]) -> Result<PartitionList<'a>, BadList>
+        ensures { result ≡ list_of words.now flash.now }
+    {
+        let entries = right_entries(words, flash.len())?;
+        let slots = slot_count(entries) as u32;
+        Ok(PartitionList {
+            entries,
+            flash,
+            slots,
+        })
+    }
+
+    /// How many slots it has.
+    #[tactic(auto, using(crate::proofs::ListRules::two_slots))]
+    pub fn slots(&self) -> u32
+        ensures value { result ≡ slot_count self.now.entries }
+        ensures least { 2 ≤ result }
+    {
+        self.slots
+    }
+
+    /// Whether it lists factory.
+    pub fn has_factory(&self) -> bool
+        ensures { result ≡ has_factory self.now.entries }
+    {
+        has_factory(self.entries)
+    }
+
+    /// The part of the flash that belongs to an app, if it is listed.
+    #[tactic(auto, using(crate::proofs::ListRules::bytes_fit), unfolding(crate::specs::PartitionList::image_of))]
+    pub fn image(&self, app: App) -> Option<&'a [u8]>
+        ensures value { option_map (λ part. part.now) result ≡ image_of self.now app }
+        ensures fits { IfSome result (λ part. length part.now ≤ MAX_FLASH) }
+    {
+        let entry = self.entry(app)?;
+        Some(entry.part(self.flash))
+    }
+
+    /// The entry of an app, if it is listed.
+    #[tactic(auto, using(crate::proofs::ListRules::entry_ends))]
+    pub(crate) fn entry(&self, app: App) -> Option<Entry>
+        ensures value { result ≡ entry_with (subtype_of app) self.now.entries }
+        ensures within { IfSome result (λ entry. end_of entry ≤ length self.now.flash) }
+    {
+        entry_with(app.subtype(), self.entries)
     }
 }

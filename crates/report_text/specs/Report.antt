@@ -1,41 +1,39 @@
--- The report on two otadata sectors, as document 01's "The report" prints it, with the reasons of document 02's order 7.
-use Rattle.std.specs.Prelude.{ℕ, List, ◌++◌, get_or}
-use Rattle.otadata.specs.declared.State.{State}
-use Rattle.otadata.specs.declared.State.TheVariants.{New, Pending, Valid, Invalid, Aborted, Undefined}
-use Rattle.otadata.specs.declared.Verdict.{Verdict}
-use Rattle.otadata.specs.declared.Verdict.TheVariants.{WrongSize, Blank, BadSequence, BadCheck, BadState, Good}
-use Rattle.otadata.specs.declared.Reading.{Reading}
-use Rattle.sectors.specs.declared.Holder.{Holder}
-use Rattle.sectors.specs.declared.Holder.TheVariants.{None, Sector}
-use Rattle.otadata.specs.Records.{no_reading}
-use Rattle.sectors.specs.Sectors.{active}
-use Rattle.report_text.specs.Text.{ascii, decimal}
+-- The report on two otadata sectors, line by line.
+use Rattle.std.specs.Prelude.{ℕ, List, [], ◌∷◌, ◌++◌, codes, Option, Some, None, Ok, Err}
+use Rattle.std.specs.Fmt.{decimal}
+use Rattle.otadata.specs.declared.records.Record.{Record}
+use Rattle.otadata.specs.declared.records.Fault.TheVariants.{WrongSize}
+use Rattle.otadata.specs.State.{name_of}
+use Rattle.otadata.specs.Answer.{name_of as fault_name_of}
+use Rattle.otadata.specs.Record.{Reading}
+use Rattle.sectors.specs.declared.reading.SectorNumber.{SectorNumber}
+use Rattle.sectors.specs.declared.reading.SectorNumber.TheVariants.{Zero, One}
+use Rattle.sectors.specs.Sector.{active}
 
-abbrev pub state_name : State → List ℕ
-state_name New = ascii "new"
-state_name Pending = ascii "pending"
-state_name Valid = ascii "valid"
-state_name Invalid = ascii "invalid"
-state_name Aborted = ascii "aborted"
-state_name Undefined = ascii "undefined"
+abbrev pub record_text : Record → List ℕ
+record_text r = codes "seq " ++ decimal r.sequence.0 ++ codes " state " ++ name_of r.state
 
--- a record that is not good prints why. Document 01's none is left for a sector of a wrong size, which 8,192 bytes do not have
-abbrev pub verdict_text : Verdict → List ℕ
-verdict_text WrongSize = ascii "none"
-verdict_text Blank = ascii "blank"
-verdict_text BadSequence = ascii "bad sequence"
-verdict_text BadCheck = ascii "bad check"
-verdict_text BadState = ascii "bad state"
-verdict_text (Good q s) = ascii "seq " ++ decimal q.0 ++ ascii " state " ++ state_name s
+-- a record that is not good prints why; none is left for a sector of a wrong size, which 8,192 bytes do not have
+abbrev pub reading_text : Reading → List ℕ
+reading_text (Ok r) = record_text r
+reading_text (Err WrongSize) = codes "none"
+reading_text (Err fault) = fault_name_of fault
 
-unfoldable pub sector_line : ℕ → Reading → List ℕ
-sector_line k r = ascii "sector " ++ decimal k ++ ascii " " ++ verdict_text r.verdict ++ ascii "\n"
+abbrev pub digit_of : SectorNumber → List ℕ
+digit_of Zero = codes "0"
+digit_of One = codes "1"
+
+unfoldable pub sector_line : SectorNumber → Reading → List ℕ
+sector_line number reading = codes "sector " ++ digit_of number ++ codes " " ++ reading_text reading ++ codes "\n"
 
 -- a missing active prints none
-abbrev pub active_line : Holder → List ℕ
-active_line None = ascii "active none\n"
-active_line (Sector k) = ascii "active " ++ decimal k ++ ascii "\n"
+abbrev pub active_line : Option SectorNumber → List ℕ
+active_line None = codes "active none\n"
+active_line (Some number) = codes "active " ++ digit_of number ++ codes "\n"
 
+-- the report on the readings of both sectors
 unfoldable pub report_of : List Reading → List ℕ
-report_of rs =
-    ascii "otadata report\n" ++ sector_line 0 (get_or rs 0 no_reading) ++ sector_line 1 (get_or rs 1 no_reading) ++ active_line (active rs)
+report_of [] = []
+report_of (first ∷ []) = []
+report_of (first ∷ second ∷ rest) =
+    codes "otadata report\n" ++ sector_line Zero first ++ sector_line One second ++ active_line (active (first ∷ second ∷ rest))

@@ -1,83 +1,95 @@
+//! The report on two otadata sectors, as text.
 #![tactic(auto)]
 
-// The report on two otadata sectors, as text.
-mod buffer;
+mod text;
 
-ghost use Rattle.std.specs.Prelude.{◌≡◌};
-ghost use Rattle.report_text.specs.Text.{text_of, Puts};
-ghost use Rattle.report_text.specs.Report.{state_name, verdict_text, sector_line, active_line, report_of};
+ghost use Rattle.std.specs.Prelude.{◌≡◌, ◌+◌, ◌≤◌, ◌++◌, length};
+ghost use Rattle.report_text.specs.Report.{record_text, reading_text, digit_of, sector_line, active_line, report_of};
+ghost use Rattle.report_text.specs.Example.{Example};
 
-use buffer::{empty, push_all, push_decimal};
-use otadata::{Reading, State, Verdict};
-use sectors::Holder;
+use otadata::{Fault, Reading, Record};
+use sectors::SectorNumber;
+pub use text::Text;
 
-// A text: its first `len` bytes.
-#[derive(Clone, Copy)]
-pub struct Text {
-    pub bytes: [u8; 256],
-    pub len: usize,
-}
-
-// The report on the two readings.
+/// The report on the readings of both sectors: four lines.
+#[tactic(auto, using(crate::proofs::Example::example), unfolding(crate::specs::Report::report_of))]
 pub fn report(readings: [Reading; 2]) -> Text
-    ensures { result ≡ text_of (report_of readings) }
+    ensures exact { result ≡ report_of readings }
+    ensures fits { length result ≤ 256 }
+    ensures example { Example }
 {
-    let first = readings[0];
-    let second = readings[1];
-    let holder = sectors::active(readings);
-    let heading = push_all(empty(), b"otadata report\n");
-    let one = sector_line(heading, 0, first);
-    let two = sector_line(one, 1, second);
-    active_line(two, holder)
+    let [first, second] = readings;
+    let mut text = Text::new();
+    text.push_str("otadata report\n");
+    push_sector(&mut text, SectorNumber::Zero, first);
+    push_sector(&mut text, SectorNumber::One, second);
+    push_active(&mut text, sectors::active(readings));
+    text
 }
 
-// The functions below put one part of the report at the end of a text.
-
-fn sector_line(text: Text, k: u64, reading: Reading) -> Text
-    ensures { Puts text result (sector_line k reading) }
+/// The line of a sector.
+#[tactic(auto, unfolding(crate::specs::Report::sector_line))]
+fn push_sector(text: &mut Text, number: SectorNumber, reading: Reading)
+    requires { length text.old + 40 ≤ 256 }
+    ensures line { text.new ≡ text.old ++ sector_line number reading }
+    ensures size { length text.new ≤ length text.old + 40 }
 {
-    let verdict = reading.verdict;
-    let number = push_decimal(push_all(text, b"sector "), k);
-    push_all(push_verdict(push_all(number, b" "), verdict), b"\n")
+    text.push_str("sector ");
+    text.push_str(digit(number));
+    text.push_str(" ");
+    push_reading(text, reading);
+    text.push_str("\n");
 }
 
-fn push_verdict(text: Text, verdict: Verdict) -> Text
-    ensures { Puts text result (verdict_text verdict) }
+/// What a sector reads as.
+fn push_reading(text: &mut Text, reading: Reading)
+    requires { length text.old + 30 ≤ 256 }
+    ensures line { text.new ≡ text.old ++ reading_text reading }
+    ensures size { length text.new ≤ length text.old + 30 }
 {
-    match verdict {
-        Verdict::WrongSize => push_all(text, b"none"),
-        Verdict::Blank => push_all(text, b"blank"),
-        Verdict::BadSequence => push_all(text, b"bad sequence"),
-        Verdict::BadCheck => push_all(text, b"bad check"),
-        Verdict::BadState => push_all(text, b"bad state"),
-        Verdict::Good(sequence, state) => {
-            let number = push_decimal(push_all(text, b"seq "), sequence.0 as u64);
-            push_state(push_all(number, b" state "), state)
+    match reading {
+        Ok(record) => push_record(text, record),
+        Err(Fault::WrongSize) => text.push_str("none"),
+        Err(fault) => text.push_str(fault.name()),
+    }
+}
+
+/// A good record.
+#[tactic(auto, using(crate::proofs::Sizes::ten_digits, crate::proofs::Sizes::state_name))]
+fn push_record(text: &mut Text, good: Record)
+    requires { length text.old + 30 ≤ 256 }
+    ensures line { text.new ≡ text.old ++ record_text good }
+    ensures size { length text.new ≤ length text.old + 30 }
+{
+    text.push_str("seq ");
+    text.push_decimal(good.sequence.0);
+    text.push_str(" state ");
+    text.push_str(good.state.name());
+}
+
+/// The line of the active record.
+fn push_active(text: &mut Text, sector: Option<SectorNumber>)
+    requires { length text.old + 12 ≤ 256 }
+    ensures line { text.new ≡ text.old ++ active_line sector }
+    ensures size { length text.new ≤ length text.old + 12 }
+{
+    match sector {
+        None => text.push_str("active none\n"),
+        Some(number) => {
+            text.push_str("active ");
+            text.push_str(digit(number));
+            text.push_str("\n");
         }
     }
 }
 
-fn push_state(text: Text, state: State) -> Text
-    ensures { Puts text result (state_name state) }
+/// The number of a sector, in decimal.
+fn digit(number: SectorNumber) -> &'static str
+    ensures text { result.now ≡ digit_of number }
+    ensures size { length result.now ≡ 1 }
 {
-    match state {
-        State::New => push_all(text, b"new"),
-        State::Pending => push_all(text, b"pending"),
-        State::Valid => push_all(text, b"valid"),
-        State::Invalid => push_all(text, b"invalid"),
-        State::Aborted => push_all(text, b"aborted"),
-        State::Undefined => push_all(text, b"undefined"),
-    }
-}
-
-fn active_line(text: Text, holder: Holder) -> Text
-    ensures { Puts text result (active_line holder) }
-{
-    match holder {
-        Holder::None => push_all(text, b"active none\n"),
-        Holder::Sector(k) => {
-            let number = push_decimal(push_all(text, b"active "), k as u64);
-            push_all(number, b"\n")
-        }
+    match number {
+        SectorNumber::Zero => "0",
+        SectorNumber::One => "1",
     }
 }

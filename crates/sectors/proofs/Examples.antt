@@ -1,46 +1,43 @@
--- Small facts of the definitions that the law of cut rewrites assumes: a sector that is blank, and calls that are refused.
--- Assumes nothing.
-use Prim.Native.Nat.{ℕ, ◌<◌}
-use mathlib.Core.Path.{◌≡◌, ◌∙◌, refl, sym, ap, subst}
-use mathlib.Core.Bool.{true, false}
-use mathlib.Core.List.{List, []}
-use native.Mathlib.Omega.{arith}
-use lib.ListN.{length, get_or, drop, replicate, get_or-replicate, length-take}
-use lib.Seq.{take_all}
-use borrow.Author.Tests.{ne_eqb}
-use Rattle.otadata.specs.Records.{good}
-use Rattle.sectors.specs.Sectors.{IsBlank, reads_as, Reply, sized, single_store, rewrite, slice}
-use Rattle.sectors.specs.PowerCut.{store_refused, rewrite_refused, IsRefused, IsAllowed}
-use Rattle.sectors.proofs.SectorReads.{reads_none, record_is}
-use Rattle.sectors.proofs.Stores.{right_sizes, record_decides, store_of_wrong_size, no_such_store, rewrite_of_wrong_size}
+-- A sector that is blank, and calls that are refused: what the law of cut rewrites assumes can hold.
+use Rattle.std.proofs.Common.{◌≡◌, ℕ, ◌<◌, false, List, [], length, get_or, drop, replicate, refl, sym, ap, ◌∙◌, arith, length-take}
+use Rattle.std.proofs.lemmas.List.{get_or-replicate, take_all}
+use Rattle.std.proofs.lemmas.Bool.Decides.{nat_tests}
+use Rattle.otadata.specs.Record.{is_good}
+use Rattle.sectors.specs.Slice.{slice}
+use Rattle.sectors.specs.Examples.{BlankLaw, RefusedCalls}
+use Rattle.sectors.specs.PowerCut.{IsBlank, reads_as, store_refused, rewrite_refused, IsAllowed}
+use Rattle.sectors.proofs.Cuts.{record_is}
+use Rattle.sectors.proofs.ReadingLaw.{reads_none}
 
 -- ---- a sector whose record is erased
 
-no_record : good (replicate 32 255) ≡ false
-unfolding good
+no_record : is_good (replicate 32 255) ≡ false
+unfolding is_good
 no_record = refl
 
 module _ (s : List ℕ) (size : length s ≡ 4096) (erased : (j : ℕ) → j < 32 → get_or s j 0 ≡ 255) where
   pub is_blank : IsBlank s
-  unfolding IsBlank
-  is_blank = record_is s size (replicate 32 255) refl (λ (j : ℕ) (l : j < 32). erased j l ∙ sym (get_or-replicate 32 j 255 0 l))
+  is_blank = record_is s (replicate 32 255) size refl (λ j below. erased j below ∙ sym (get_or-replicate 32 j 255 0 below))
 
   pub blank_reads : reads_as s ≡ []
-  unfolding IsBlank is_blank
-  blank_reads = reads_none s (ap good is_blank ∙ no_record)
+  blank_reads = reads_none s (ap is_good is_blank ∙ no_record)
+
+pub blank_law : BlankLaw
+unfolding BlankLaw
+blank_law s size erased = (is_blank s size erased, blank_reads s size erased)
 
 -- ---- calls that are refused
 
 -- lent a slice of fewer than 4,096 bytes
-module _ (s rec : List ℕ) (from size : ℕ) (l : size < 4096) where
-  short : false ≡ sized (slice from size s) rec
-  short = simp (ne_eqb (length (slice from size s)) 4096 (λ (e : length (slice from size s) ≡ 4096). omega (arith, length-take size (drop from s))))
+module _ (s bytes : List ℕ) (from size : ℕ) (few : size < 4096) where
+  short : length (slice from size s) < 4096
+  short = omega (arith, length-take size (drop from s))
 
-  pub store_in_slice : (m : ℕ) → IsAllowed (store_refused from size rec m) s
-  store_in_slice m e = omega (arith, ap (λ (r : Reply). r.number) (store_of_wrong_size (slice from size s) rec m false short refl))
+  pub store_in_slice : (m : ℕ) → IsAllowed (store_refused from size bytes m) s
+  store_in_slice m = grind (arith, nat_tests, short)
 
-  pub rewrite_of_slice : IsAllowed (rewrite_refused from size rec) s
-  rewrite_of_slice e = omega (arith, ap (λ (r : Reply). r.number) (rewrite_of_wrong_size (slice from size s) rec false short refl))
+  pub rewrite_of_slice : IsAllowed (rewrite_refused from size bytes) s
+  rewrite_of_slice = grind (arith, nat_tests, short)
 
 -- lent the whole sector
 module _ (s : List ℕ) (size : length s ≡ 4096) where
@@ -48,13 +45,18 @@ module _ (s : List ℕ) (size : length s ≡ 4096) where
   whole = take_all 4096 s (omega arith)
 
   -- there is no store 4,128
-  pub store_4128 : (rec : List ℕ) → length rec ≡ 32 → IsAllowed (store_refused 0 4096 rec 4128) s
-  store_4128 rec rec-size =
-      subst (λ (x : List ℕ). IsRefused (single_store x rec 4128)) (sym whole)
-      (λ e. omega (arith, ap (λ (r : Reply). r.number) (no_such_store s rec 4128 true (sym (right_sizes s rec size rec-size)) refl (omega arith))))
+  pub store_4128 : (bytes : List ℕ) → length bytes ≡ 32 → IsAllowed (store_refused 0 4096 bytes 4128) s
+  store_4128 bytes size_bytes = rw whole (simp (size, size_bytes))
 
   -- a rewrite with a record of no bytes
   pub rewrite_with_none : IsAllowed (rewrite_refused 0 4096 []) s
-  rewrite_with_none =
-      subst (λ (x : List ℕ). IsRefused (rewrite x [])) (sym whole)
-      (λ e. omega (arith, ap (λ (r : Reply). r.number) (rewrite_of_wrong_size s [] false (record_decides s [] size) refl)))
+  rewrite_with_none = rw whole (simp size)
+
+pub refused_calls : RefusedCalls
+refused_calls =
+    record {
+      store_in_slice = λ s bytes from size m few. store_in_slice s bytes from size few m;
+      rewrite_of_slice = rewrite_of_slice;
+      store_4128 = λ s bytes size. store_4128 s size bytes;
+      rewrite_with_none = rewrite_with_none;
+    }

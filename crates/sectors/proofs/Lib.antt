@@ -1,9 +1,7 @@
-pub mod Activity
+pub mod Stores
 pub mod Cuts
-pub mod Examples
-pub mod Lent
 pub mod ReadingLaw
 pub mod Restating
-pub mod SectorReads
-pub mod Stores
-pub mod TwoSectors
+pub mod Slices
+pub mod Examples
+pub mod Activity

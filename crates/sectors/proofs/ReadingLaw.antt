@@ -1,41 +1,54 @@
 -- The law of a sector's reading through any list of cut rewrites.
--- What the list keeps true is `Sound`: the first four bytes are 0xFF, or the record is a good one with its first bytes, at most three of
+-- What the list keeps true: the first four bytes are 0xFF, or the record is a good one with its first bytes, at most three of
 -- them, turned to 0xFF. The check word is one-to-one, so such a record reads as itself or as none.
--- Assumes nothing.
-use Prim.Native.Nat.{ℕ, ◌+◌, ◌-◌, ◌*◌, ◌<◌, ◌≤◌}
-use mathlib.Core.Path.{◌≡◌, ◌∙◌, refl, sym, ap, ap₂, subst}
-use mathlib.Core.Bool.{Bool, true, false, cond}
-use mathlib.Core.List.{List, [], ◌∷◌}
-use mathlib.Core.Logic.{◌⊎◌, inl, inr, ⊎_elim}
-use native.Mathlib.Omega.{arith}
-use lib.Dec.{ltb}
-use lib.ListN.{length, get_or, drop, replicate, get_or-replicate, get_or-eq_default, take-append-drop}
-use Rattle.otadata.specs.Words.{IsBytes}
-use Rattle.otadata.specs.Records.{sequence_field, check_field, good}
-use Rattle.sectors.specs.Sectors.{record_in, IsBlank, reads_as, cut, reply, sized, single_store, rewrite, slice, with_slice}
-use Rattle.sectors.specs.PowerCut.{Call, rewrite_cut, store_refused, rewrite_refused, IsRefused, IsAllowed, leaves, after, AllAllowed, Last, none, last, noted, last_of, History, Reads, ReadingLaw, StoreByStore}
-use Rattle.otadata.proofs.CheckWord.{check_word_one_to_one}
-use Rattle.otadata.proofs.Goodness.{is_good}
-use Rattle.sectors.proofs.SectorReads.{reads_record, reads_none, reads_alike, good_or_not, record_in-length, record_in_byte, record_is}
-use Rattle.otadata.proofs.Numbers.{le_or_lt, below_four}
-use Rattle.sectors.proofs.Stores.{right_sizes, store_done, cut_more, cut-length}
-use Rattle.sectors.proofs.Cuts.{erased, kept, programmed, unprogrammed}
+use Rattle.std.proofs.Common.{◌≡◌, ◌⊎◌, ℕ, zero, suc, ◌+◌, ◌-◌, ◌<◌, ◌≤◌, true, false, List, [], ◌∷◌, length, take, get_or, refl, sym, ap, ◌∙◌, subst, inl, inr, ⊎_elim, arith}
+use Rattle.std.specs.Prelude.{All, IsErr, Result, Ok, Err}
+use Rattle.std.proofs.lemmas.List.{get_or-replicate}
+use Rattle.std.proofs.lemmas.Bool.{cases_Bool, cases_lt}
+use Rattle.std.proofs.lemmas.Grind.{common_steps}
+use Rattle.std.specs.Result.{result_unwrap_or}
+use Rattle.otadata.specs.Record.{sequence_field, check_field, is_good}
+use Rattle.otadata.proofs.OneToOne.{check_word_one_to_one}
+use Rattle.otadata.proofs.FieldBytes.{sequence_field-bytes, check_field-bytes, is_good-true}
+use Rattle.sectors.specs.declared.rewriting.Refusal.{Refusal}
+use Rattle.sectors.specs.Sector.{record_in}
+use Rattle.sectors.specs.Rewrite.{cut, single_store, rewrite}
+use Rattle.sectors.specs.Slice.{slice, with_slice}
+use Rattle.sectors.specs.PowerCut.{IsBlank, reads_as, Call, rewrite_cut, store_refused, rewrite_refused, IsAllowed, leaves, after, AllAllowed, Last, none, last, noted, last_of, History, Reads, FinishedLaw, ReadingLaw}
+use Rattle.sectors.proofs.Stores.{length-cut}
+use Rattle.sectors.proofs.Slices.{slice_same}
+use Rattle.sectors.proofs.Cuts.{record_in-sized, record_is, record_in-byte, erased, kept, programmed, unprogrammed, finished_record}
 
-pub store_by_store : StoreByStore
-unfolding StoreByStore
-store_by_store s rec k size rec-size l =
-    sym (store_done (cut rec k s) rec k (right_sizes (cut rec k s) rec (cut-length s rec k ∙ size) rec-size) l) ∙ ap (reply 0) (sym (cut_more s rec k))
+-- ---- reading
+
+pub reads_record : (s : List ℕ) → is_good (record_in s) ≡ true → reads_as s ≡ record_in s
+unfolding reads_as
+reads_record s good = simp good
+
+pub reads_none : (s : List ℕ) → is_good (record_in s) ≡ false → reads_as s ≡ []
+unfolding reads_as
+reads_none s bad = simp bad
+
+pub reads_alike : (s t : List ℕ) → record_in s ≡ record_in t → reads_as s ≡ reads_as t
+unfolding reads_as
+reads_alike s t same = simp same
+
+below_four : (P : ℕ → Type 0) → P 0 → P 1 → P 2 → P 3 → (j : ℕ) → j < 4 → P j
+below_four P at_0 at_1 at_2 at_3 zero below = at_0
+below_four P at_0 at_1 at_2 at_3 (suc zero) below = at_1
+below_four P at_0 at_1 at_2 at_3 (suc (suc zero)) below = at_2
+below_four P at_0 at_1 at_2 at_3 (suc (suc (suc zero))) below = at_3
+below_four P at_0 at_1 at_2 at_3 (suc (suc (suc (suc j)))) below = absurd (omega arith)
 
 -- ---- the two shapes
 
--- the first four bytes are 0xFF
 abbrev Erased : List ℕ → Type 0
 Erased s = (j : ℕ) → j < 4 → get_or s j 0 ≡ 255
 
 -- the record is g with its first i bytes turned to 0xFF
 record Partly (g : List ℕ) (i : ℕ) (s : List ℕ) : Type 0 where
-  of_bytes : IsBytes g
-  was_good : good g ≡ true
+  are_bytes : (j : ℕ) → get_or g j 0 < 256
+  was_good : is_good g ≡ true
   few : i ≤ 3
   gone : (j : ℕ) → j < i → get_or s j 0 ≡ 255
   there : (j : ℕ) → i ≤ j → j < 32 → get_or s j 0 ≡ get_or g j 0
@@ -44,116 +57,97 @@ data Shape (s : List ℕ) : Type 0 where
   is_erased : Erased s → Shape s
   is_partly : (g : List ℕ) (i : ℕ) → Partly g i s → Shape s
 
-record Sound (s : List ℕ) : Type 0 where
-  size : length s ≡ 4096
-  shape : Shape s
-
 -- an erased sequence is 4,294,967,295, which no good record has
 erased_reads : (s : List ℕ) → length s ≡ 4096 → Erased s → reads_as s ≡ []
-erased_reads s size e =
-    ⊎_elim
-    (λ (g : good (record_in s) ≡ true).
-    absurd
-    (omega (
+erased_reads s size all = reads_none s (⊎_elim
+    (λ (good : is_good (record_in s) ≡ true).
+    absurd (omega (
       arith,
-      (is_good (record_in s) g).to_last,
-      record_in_byte s size 0 (omega arith) ∙ e 0 (omega arith),
-      record_in_byte s size 1 (omega arith) ∙ e 1 (omega arith),
-      record_in_byte s size 2 (omega arith) ∙ e 2 (omega arith),
-      record_in_byte s size 3 (omega arith) ∙ e 3 (omega arith),
+      (is_good-true (record_in s) good).to_last,
+      sequence_field-bytes (record_in s),
+      record_in-byte s size 0 (omega arith) ∙ all 0 (omega arith),
+      record_in-byte s size 1 (omega arith) ∙ all 1 (omega arith),
+      record_in-byte s size 2 (omega arith) ∙ all 2 (omega arith),
+      record_in-byte s size 3 (omega arith) ∙ all 3 (omega arith),
     )))
-    (reads_none s)
-    (good_or_not s)
+    (λ (bad : is_good (record_in s) ≡ false). bad)
+    (cases_Bool (is_good (record_in s))))
 
 -- ---- a partly erased record reads as itself or as none
 
 module _ (s g : List ℕ) (i : ℕ) (size : length s ≡ 4096) (p : Partly g i s) where
-  byte : (j : ℕ) → j < 32 → get_or (record_in s) j 0 ≡ get_or s j 0
-  byte = record_in_byte s size
-
   -- an erased byte is no lower than the one that was there
   no_lower : (j : ℕ) → j < 32 → get_or g j 0 ≤ get_or (record_in s) j 0
-  no_lower j l =
-      ⊎_elim
-      (λ (in_place : i ≤ j). omega (arith, byte j l, p.there j in_place l))
-      (λ (lost : j < i). omega (arith, byte j l, p.gone j lost, p.of_bytes j))
-      (le_or_lt i j)
+  no_lower j below = grind (arith, record_in-byte s size j below, p.there j, p.gone j, p.are_bytes j)
 
   unchanged : (j : ℕ) → 3 ≤ j → j < 32 → get_or (record_in s) j 0 ≡ get_or g j 0
-  unchanged j h l = byte j l ∙ p.there j (omega (arith, p.few)) l
+  unchanged j from below = record_in-byte s size j below ∙ p.there j (omega (arith, p.few)) below
 
   same_check : check_field (record_in s) ≡ check_field g
-  same_check =
-      ap₂ ◌+◌
-      (ap₂ ◌+◌
-      (ap₂ ◌+◌ (unchanged 28 (omega arith) (omega arith)) (ap (◌*◌ 256) (unchanged 29 (omega arith) (omega arith))))
-      (ap (◌*◌ 65536) (unchanged 30 (omega arith) (omega arith))))
-      (ap (◌*◌ 16777216) (unchanged 31 (omega arith) (omega arith)))
-
-  same_sequence : good (record_in s) ≡ true → sequence_field (record_in s) ≡ sequence_field g
-  same_sequence h =
-      let now = is_good (record_in s) h in
-      let was = is_good g p.was_good in
-      check_word_one_to_one _ _ (omega (arith, now.to_last)) (omega (arith, was.to_last))
-      (sym now.check ∙ same_check ∙ was.check)
+  same_check = omega (
+    arith,
+    check_field-bytes (record_in s),
+    check_field-bytes g,
+    unchanged 28 (omega arith) (omega arith),
+    unchanged 29 (omega arith) (omega arith),
+    unchanged 30 (omega arith) (omega arith),
+    unchanged 31 (omega arith) (omega arith),
+  )
 
   -- so no byte of the sequence was changed
-  same_low : good (record_in s) ≡ true → (j : ℕ) → j < 4 → get_or (record_in s) j 0 ≡ get_or g j 0
-  same_low h =
-      let e = same_sequence h in
-      let l0 = no_lower 0 (omega arith) in
-      let l1 = no_lower 1 (omega arith) in
-      let l2 = no_lower 2 (omega arith) in
-      let l3 = no_lower 3 (omega arith) in
-      below_four (λ (j : ℕ). get_or (record_in s) j 0 ≡ get_or g j 0) (omega arith) (omega arith) (omega arith) (omega arith)
+  same_low : is_good (record_in s) ≡ true → (j : ℕ) → j < 4 → get_or (record_in s) j 0 ≡ get_or g j 0
+  same_low good j below =
+      let now = is_good-true (record_in s) good in
+      let was = is_good-true g p.was_good in
+      let same = check_word_one_to_one (sequence_field (record_in s)) (sequence_field g) (omega (arith, now.to_last)) (omega (arith, was.to_last)) (sym now.check ∙ same_check ∙ was.check) in
+      let bytes_now = sequence_field-bytes (record_in s) in
+      let bytes_was = sequence_field-bytes g in
+      let low_0 = no_lower 0 (omega arith) in
+      let low_1 = no_lower 1 (omega arith) in
+      let low_2 = no_lower 2 (omega arith) in
+      let low_3 = no_lower 3 (omega arith) in
+      below_four (λ j. get_or (record_in s) j 0 ≡ get_or g j 0) (omega arith) (omega arith) (omega arith) (omega arith) j below
 
-  same_bytes : good (record_in s) ≡ true → (j : ℕ) → j < 32 → get_or s j 0 ≡ get_or g j 0
-  same_bytes h j l =
-      sym (byte j l)
-      ∙ ⊎_elim (λ (high : 3 ≤ j). unchanged j high l) (λ (low : j < 3). same_low h j (omega arith)) (le_or_lt 3 j)
+  same_bytes : is_good (record_in s) ≡ true → (j : ℕ) → j < 32 → get_or s j 0 ≡ get_or g j 0
+  same_bytes good j below = grind (arith, record_in-byte s size j below, unchanged j, same_low good j)
 
-  partly_is : good (record_in s) ≡ true → record_in s ≡ g
-  partly_is h = record_is s size g (is_good g p.was_good).size (same_bytes h)
+  partly_reads : (reads_as s ≡ []) ⊎ (record_in s ≡ g)
+  partly_reads =
+      ⊎_elim
+      (λ (good : is_good (record_in s) ≡ true). inr (record_is s g size (is_good-true g p.was_good).size (same_bytes good)))
+      (λ (bad : is_good (record_in s) ≡ false). inl (reads_none s bad))
+      (cases_Bool (is_good (record_in s)))
 
 -- ---- one cut rewrite
-
--- it reads as none, or its record is g
-partly_reads : (s g : List ℕ) (i : ℕ) → length s ≡ 4096 → Partly g i s → (reads_as s ≡ []) ⊎ (record_in s ≡ g)
-partly_reads s g i size p =
-    ⊎_elim
-    (λ (h : good (record_in s) ≡ true). inr (partly_is s g i size p h))
-    (λ (h : good (record_in s) ≡ false). inl (reads_none s h))
-    (good_or_not s)
 
 -- what a cut rewrite leaves, and how that reads
 record Step (s rec : List ℕ) (k : ℕ) : Type 0 where
   shape : Shape (cut rec k s)
   reads : Reads s rec k (cut rec k s)
 
-module _ (s rec : List ℕ) (k : ℕ) (size : length s ≡ 4096) (of_bytes : IsBytes rec) (g : good rec ≡ true) where
+module _ (s rec : List ℕ) (k : ℕ) (size : length s ≡ 4096) (are_bytes : (j : ℕ) → get_or rec j 0 < 256) (good : is_good rec ≡ true) where
   new_size : length (cut rec k s) ≡ 4096
-  new_size = cut-length s rec k ∙ size
+  new_size = length-cut s rec k ∙ size
 
   -- the sequence is erased: none is read
   step_erased : k < 4128 → Erased (cut rec k s) → Step s rec k
-  step_erased l e =
+  step_erased unfinished all =
       record {
-        shape = is_erased e;
+        shape = is_erased all;
         reads = record {
-          one_of = inr (inr (erased_reads (cut rec k s) new_size e));
-          finished = λ (f : k ≡ 4128). absurd (omega arith);
+          one_of = inr (inr (erased_reads (cut rec k s) new_size all));
+          finished = λ (whole : k ≡ 4128). absurd (omega arith);
         };
       }
 
   -- at most three bytes of the new record are missing
   step_new : k ≤ 4128 → 4125 ≤ k → Step s rec k
-  step_new l h =
+  step_new upto from =
       record {
-        shape = is_partly rec (4128 - k) p;
+        shape = is_partly rec (4128 - k) missing;
         reads = record {
-          one_of = inr (⊎_elim (λ (n : reads_as (cut rec k s) ≡ []). inr n) (λ (e : record_in (cut rec k s) ≡ rec). inl (reads_as_lem e)) (partly_reads (cut rec k s) rec (4128 - k) new_size p));
-          finished = λ (f : k ≡ 4128).
-              reads_as_lem (record_is (cut rec k s) new_size rec (is_good rec g).size (λ (j : ℕ) (lj : j < 32). p.there j (omega arith) lj));
+          one_of = inr (⊎_elim (λ (n : reads_as (cut rec k s) ≡ []). inr n) (λ (e : record_in (cut rec k s) ≡ rec). inl (reads_rec e)) (partly_reads (cut rec k s) rec (4128 - k) new_size missing));
+          finished = λ (whole : k ≡ 4128). reads_rec (record_is (cut rec k s) rec new_size (is_good-true rec good).size (λ j below. missing.there j (omega arith) below));
         };
       }
     where
@@ -161,51 +155,42 @@ module _ (s rec : List ℕ) (k : ℕ) (size : length s ≡ 4096) (of_bytes : IsB
       split = omega arith
 
       at : (j : ℕ) → get_or (cut rec k s) j 0 ≡ get_or (cut rec (4096 + (k - 4096)) s) j 0
-      at j = ap (λ (n : ℕ). get_or (cut rec n s) j 0) split
+      at j = ap (λ n. get_or (cut rec n s) j 0) split
 
-      p : Partly rec (4128 - k) (cut rec k s)
-      p =
+      missing : Partly rec (4128 - k) (cut rec k s)
+      missing =
           record {
-            of_bytes = of_bytes;
-            was_good = g;
+            are_bytes = are_bytes;
+            was_good = good;
             few = omega arith;
-            gone = λ (j : ℕ) (lj : j < 4128 - k). at j ∙ unprogrammed rec s size (k - 4096) j (omega arith) (omega arith);
-            there = λ (j : ℕ) (hj : 4128 - k ≤ j) (lj : j < 32). at j ∙ programmed rec s size (k - 4096) j (omega arith) lj (omega arith);
+            gone = λ j below. at j ∙ unprogrammed rec s size (k - 4096) j (omega arith) (omega arith);
+            there = λ j from below. at j ∙ programmed rec s size (k - 4096) j (omega arith) below (omega arith);
           }
 
-      reads_as_lem : record_in (cut rec k s) ≡ rec → reads_as (cut rec k s) ≡ rec
-      reads_as_lem e = reads_record (cut rec k s) (ap good e ∙ g) ∙ e
+      reads_rec : record_in (cut rec k s) ≡ rec → reads_as (cut rec k s) ≡ rec
+      reads_rec e = reads_record (cut rec k s) (ap is_good e ∙ good) ∙ e
 
-  -- only bytes of the old sequence are erased
+  -- only bytes of the old sequence are erased: of its i missing ones, now i'
   module _ (old : List ℕ) (i i' : ℕ) (was : Partly old i s) (more : i ≤ i') (early : k ≤ i') (few : i' ≤ 3)
       (lost : (j : ℕ) → j < i' → k ≤ j → j < i) where
     still : Partly old i' (cut rec k s)
     still =
         record {
-          of_bytes = was.of_bytes;
+          are_bytes = was.are_bytes;
           was_good = was.was_good;
           few = few;
-          gone = λ (j : ℕ) (l : j < i').
-              ⊎_elim
-              (λ (h : k ≤ j). kept rec s size k j (omega arith) h ∙ was.gone j (lost j l h))
-              (λ (h : j < k). erased rec s size k j (omega arith) h)
-              (le_or_lt k j);
-          there = λ (j : ℕ) (h : i' ≤ j) (l : j < 32). kept rec s size k j (omega arith) (omega arith) ∙ was.there j (omega arith) l;
+          gone = λ j below. grind (arith, kept rec s size k j, erased rec s size k j, was.gone j, lost j);
+          there = λ j from below. kept rec s size k j (omega arith) (omega arith) ∙ was.there j (omega arith) below;
         }
 
     -- where the old record is still read, nothing of it was missing before either
     old_was : record_in (cut rec k s) ≡ old → record_in s ≡ old
     old_was e =
-        record_is s size old (is_good old was.was_good).size
-        (λ (j : ℕ) (l : j < 32).
-        ⊎_elim
-        (λ (h : i ≤ j). was.there j h l)
-        (λ (h : j < i).
-        was.gone j h
-        ∙ sym (still.gone j (omega arith))
-        ∙ sym (record_in_byte (cut rec k s) new_size j l)
-        ∙ ap (λ (r : List ℕ). get_or r j 0) e)
-        (le_or_lt i j))
+        record_is s old size (is_good-true old was.was_good).size
+        (λ j below.
+        let in_record = record_in-byte (cut rec k s) new_size j below in
+        let in_old = ap (λ (r : List ℕ). get_or r j 0) e in
+        grind (arith, was.there j, was.gone j, still.gone j))
 
     step_old : Step s rec k
     step_old =
@@ -216,151 +201,109 @@ module _ (s rec : List ℕ) (k : ℕ) (size : length s ≡ 4096) (of_bytes : IsB
                 (λ (n : reads_as (cut rec k s) ≡ []). inr (inr n))
                 (λ (e : record_in (cut rec k s) ≡ old). inl (reads_alike (cut rec k s) s (e ∙ sym (old_was e))))
                 (partly_reads (cut rec k s) old i' new_size still);
-            finished = λ (f : k ≡ 4128). absurd (omega arith);
+            finished = λ (whole : k ≡ 4128). absurd (omega arith);
           };
         }
 
   step_early : k ≤ 3 → Shape s → Step s rec k
-  step_early l (is_erased e) =
-      step_erased (omega arith)
-      (λ (j : ℕ) (lj : j < 4).
+  step_early early (is_erased all) =
+      step_erased (omega arith) (λ j below. grind (arith, kept rec s size k j, erased rec s size k j, all j))
+  step_early early (is_partly old i was) =
       ⊎_elim
-      (λ (h : k ≤ j). kept rec s size k j (omega arith) h ∙ e j lj)
-      (λ (h : j < k). erased rec s size k j (omega arith) h)
-      (le_or_lt k j))
-  step_early l (is_partly old i was) =
-      ⊎_elim
-      (λ (h : k ≤ i). step_old old i i was (omega arith) h was.few (λ (j : ℕ) (lj : j < i) (hj : k ≤ j). lj))
-      (λ (h : i < k). step_old old i k was (omega arith) (omega arith) l (λ (j : ℕ) (lj : j < k) (hj : k ≤ j). absurd (omega arith)))
-      (le_or_lt k i)
+      (λ (h : k < suc i). step_old old i i was (omega arith) (omega arith) was.few (λ j below from. below))
+      (λ (h : suc i ≤ k). step_old old i k was (omega arith) (omega arith) early (λ j below from. absurd (omega arith)))
+      (cases_lt k (suc i))
 
   step_middle : 4 ≤ k → k ≤ 4124 → Step s rec k
-  step_middle h l =
+  step_middle from upto =
       step_erased (omega arith)
-      (λ (j : ℕ) (lj : j < 4).
+      (λ j below.
       ⊎_elim
-      (λ (e : k ≤ 4096). erased rec s size k j e (omega arith))
-      (λ (e : 4096 < k).
+      (λ (h : k < 4097). erased rec s size k j (omega arith) (omega arith))
+      (λ (h : 4097 ≤ k).
       let split : k ≡ 4096 + (k - 4096) = omega arith in
-      ap (λ (n : ℕ). get_or (cut rec n s) j 0) split ∙ unprogrammed rec s size (k - 4096) j (omega arith) (omega arith))
-      (le_or_lt k 4096))
+      ap (λ n. get_or (cut rec n s) j 0) split ∙ unprogrammed rec s size (k - 4096) j (omega arith) (omega arith))
+      (cases_lt k 4097))
 
   step : k ≤ 4128 → Shape s → Step s rec k
-  step l old =
+  step upto old =
       ⊎_elim
-      (λ (early : k ≤ 3). step_early early old)
-      (λ (h : 3 < k).
-      ⊎_elim
-      (λ (middle : k ≤ 4124). step_middle (omega arith) middle)
-      (λ (late : 4124 < k). step_new l (omega arith))
-      (le_or_lt k 4124))
-      (le_or_lt k 3)
+      (λ (early : k < 4). step_early (omega arith) old)
+      (λ (h : 4 ≤ k). ⊎_elim (λ (middle : k < 4125). step_middle h (omega arith)) (λ (late : 4125 ≤ k). step_new upto late) (cases_lt k 4125))
+      (cases_lt k 4)
 
 -- ---- refused calls
 
--- a slice put back as it was changes nothing
-pub slice_same : (from size : ℕ) (s : List ℕ) → with_slice from size (slice from size s) s ≡ s
-slice_same from size s = simp (take-append-drop size (drop from s), take-append-drop from s)
+-- a refused call leaves what it was lent
+refused : (r : Result (List ℕ) Refusal) (s : List ℕ) → IsErr r → result_unwrap_or r s ≡ s
+refused (Ok t) s is_err = cc
+refused (Err e) s is_err = refl
 
-refusals : (s t : List ℕ) (sizes number : Bool)
-    → IsRefused (cond sizes (cond number (reply 0 t) (reply 12 s)) (reply 2 s)) → (cond sizes (cond number (reply 0 t) (reply 12 s)) (reply 2 s)).sector ≡ s
-refusals s t true true r = absurd (r refl)
-refusals s t true false r = refl
-refusals s t false number r = refl
-
-store_refused_lem : (s rec : List ℕ) (m : ℕ) → IsRefused (single_store s rec m) → (single_store s rec m).sector ≡ s
-unfolding single_store
-store_refused_lem s rec m r = refusals s _ (sized s rec) (ltb m 4128) r
-
-rewrite_refused_lem : (s rec : List ℕ) → IsRefused (rewrite s rec) → (rewrite s rec).sector ≡ s
-unfolding rewrite
-rewrite_refused_lem s rec r = refusals s _ (sized s rec) true r
+byte_of_front : (s : List ℕ) (n j : ℕ) → get_or s j 0 < 256 → get_or (take n s) j 0 < 256
+byte_of_front s n j is_byte = grind (arith, common_steps)
 
 -- ---- the list
 
 -- what is known of the last rewrite
 abbrev Told : Last → List ℕ → Type 0
 Told none s = Unit
-Told (last before rec k) s = Reads before rec k s
+Told (last before bytes k) s = Reads before bytes k s
 
 record Known (l : Last) (s : List ℕ) : Type 0 where
-  sound : Sound s
+  size : length s ≡ 4096
+  shape : Shape s
   told : Told l s
 
 -- a slice that comes back as it was keeps it
 put_back : (from size : ℕ) (s : List ℕ) (l : Last) {left : List ℕ} → left ≡ slice from size s → Known l s → Known l (with_slice from size left s)
-put_back from size s l e now = subst (Known l) (sym (ap (λ (x : List ℕ). with_slice from size x s) e ∙ slice_same from size s)) now
+put_back from size s l same now = subst (Known l) (sym (ap (λ (x : List ℕ). with_slice from size x s) same ∙ slice_same from size s)) now
+
+byte_at : (xs : List ℕ) → All (λ byte. byte < 256) xs → (j : ℕ) → get_or xs j 0 < 256
+byte_at xs all j = grind (arith, common_steps, all j 0)
 
 -- a call keeps it
-keeps : (c : Call) (s : List ℕ) (l : Last) → IsAllowed c s → Known l s → Known (noted c s l) (leaves c s)
-keeps (rewrite_cut rec k) s l (of_bytes, g, upto) now =
-    let done = step s rec k now.sound.size of_bytes g upto now.sound.shape in
-    record {
-      sound = record { size = cut-length s rec k ∙ now.sound.size; shape = done.shape };
-      told = done.reads;
-    }
-keeps (store_refused from size rec m) s l r now = put_back from size s l (store_refused_lem (slice from size s) rec m r) now
-keeps (rewrite_refused from size rec) s l r now = put_back from size s l (rewrite_refused_lem (slice from size s) rec r) now
+keeps : (call : Call) (s : List ℕ) (l : Last) → IsAllowed call s → Known l s → Known (noted call s l) (leaves call s)
+keeps (rewrite_cut bytes k) s l (are_bytes, good, upto) now =
+    let done = step s bytes k now.size (byte_at bytes are_bytes) good upto now.shape in
+    record { size = length-cut s bytes k ∙ now.size; shape = done.shape; told = done.reads }
+keeps (store_refused from size bytes m) s l is_err now = put_back from size s l (refused (single_store (slice from size s) bytes m) (slice from size s) is_err) now
+keeps (rewrite_refused from size bytes) s l is_err now = put_back from size s l (refused (rewrite (slice from size s) bytes) (slice from size s) is_err) now
 
-all_keep : (cs : List Call) (s : List ℕ) (l : Last) → AllAllowed cs s → Known l s → Known (last_of cs s l) (after cs s)
-all_keep [] s l a now = now
-all_keep (c ∷ cs) s l (a, rest) now = all_keep cs (leaves c s) (noted c s l) rest (keeps c s l a now)
+all_keep : (calls : List Call) (s : List ℕ) (l : Last) → AllAllowed calls s → Known l s → Known (last_of calls s l) (after calls s)
+all_keep [] s l allowed now = now
+all_keep (call ∷ calls) s l (allowed, rest) now = all_keep calls (leaves call s) (noted call s l) rest (keeps call s l allowed now)
 
-start_sound : (s : List ℕ) → length s ≡ 4096 → IsBytes s → IsBlank s ⊎ (good (record_in s) ≡ true) → Sound s
-unfolding IsBlank
-start_sound s size of_bytes begins =
-    record {
-      size = size;
-      shape = ⊎_elim
-          (λ (b : record_in s ≡ replicate 32 255).
-          is_erased
-          (λ (j : ℕ) (l : j < 4).
-          sym (record_in_byte s size j (omega arith)) ∙ ap (λ (r : List ℕ). get_or r j 0) b ∙ get_or-replicate 32 j 255 0 (omega arith)))
-          (λ (g : good (record_in s) ≡ true).
-          is_partly (record_in s) 0
-          (record {
-            of_bytes = λ (j : ℕ).
-                ⊎_elim
-                (λ (h : 32 ≤ j). omega (arith, get_or-eq_default (record_in s) 0 {n = j} (omega (arith, record_in-length s size))))
-                (λ (h : j < 32). omega (arith, record_in_byte s size j h, of_bytes j))
-                (le_or_lt 32 j);
-            was_good = g;
-            few = omega arith;
-            gone = λ (j : ℕ) (l : j < 0). absurd (omega arith);
-            there = λ (j : ℕ) (h : 0 ≤ j) (l : j < 32). sym (record_in_byte s size j l);
-          }))
-          begins;
-    }
+start_shape : (s : List ℕ) → length s ≡ 4096 → ((j : ℕ) → get_or s j 0 < 256) → IsBlank s ⊎ (is_good (record_in s) ≡ true) → Shape s
+start_shape s size are_bytes (inl blank) =
+    is_erased (λ j below. sym (record_in-byte s size j (omega arith)) ∙ ap (λ (r : List ℕ). get_or r j 0) blank ∙ get_or-replicate 32 j 255 0 (omega arith))
+start_shape s size are_bytes (inr good) =
+    is_partly (record_in s) 0
+    (record {
+      are_bytes = λ j. rw (record_in-sized s size) (byte_of_front s 32 j (are_bytes j));
+      was_good = good;
+      few = omega arith;
+      gone = λ j below. absurd (omega arith);
+      there = λ j from below. sym (record_in-byte s size j below);
+    })
 
-known_after : (start : List ℕ) (calls : List Call) (before rec : List ℕ) (k : ℕ) → History start calls before rec k
-    → Known (last before rec k) (after calls start)
-known_after start calls before rec k h =
-    subst (λ (l : Last). Known l (after calls start)) h.ends
-    (all_keep calls start none h.each (record { sound = start_sound start h.size h.of_bytes h.begins; told = tt }))
+known_after : (start : List ℕ) (calls : List Call) (before bytes : List ℕ) (k : ℕ) → History start calls before bytes k
+    → Known (last before bytes k) (after calls start)
+known_after start calls before bytes k history =
+    subst (λ (l : Last). Known l (after calls start)) history.ends
+    (all_keep calls start none history.each (record { size = history.size; shape = start_shape start history.size (byte_at start history.are_bytes) history.begins; told = tt }))
 
 pub reading_law : ReadingLaw
 unfolding ReadingLaw
-reading_law start calls before rec k h = (known_after start calls before rec k h).told
+reading_law start calls before bytes k history = (known_after start calls before bytes k history).told
 
 -- the sector keeps its size
-pub after_size : (start : List ℕ) (calls : List Call) (before rec : List ℕ) (k : ℕ) → History start calls before rec k → length (after calls start) ≡ 4096
-after_size start calls before rec k h = (known_after start calls before rec k h).sound.size
+pub after_size : (start : List ℕ) (calls : List Call) (before bytes : List ℕ) (k : ℕ) → History start calls before bytes k → length (after calls start) ≡ 4096
+after_size start calls before bytes k history = (known_after start calls before bytes k history).size
 
--- a single cut rewrite is such a history
-pub one_rewrite : (start rec : List ℕ) (k : ℕ)
-    → length start ≡ 4096 → IsBytes start → IsBlank start ⊎ (good (record_in start) ≡ true)
-    → IsBytes rec → good rec ≡ true → k ≤ 4128 → History start (rewrite_cut rec k ∷ []) start rec k
-one_rewrite start rec k size of_bytes begins bytes-rec g l =
-    record { size = size; of_bytes = of_bytes; begins = begins; each = ((bytes-rec, g, l), tt); ends = refl }
+-- ---- a finished rewrite, on whatever bytes
 
--- a finished rewrite leaves its record, whatever the sector held
-pub finished_record : (s rec : List ℕ) → length s ≡ 4096 → length rec ≡ 32 → record_in (cut rec 4128 s) ≡ rec
-finished_record s rec size rec-size =
-    record_is (cut rec 4128 s) (cut-length s rec 4128 ∙ size) rec rec-size
-    (λ (j : ℕ) (l : j < 32). programmed rec s size 32 j (omega arith) l (omega arith))
-
--- and is read as it
-pub finished_reads : (s rec : List ℕ) → length s ≡ 4096 → good rec ≡ true → reads_as (cut rec 4128 s) ≡ rec
-finished_reads s rec size g =
-    let same = finished_record s rec size (is_good rec g).size in
-    reads_record (cut rec 4128 s) (ap good same ∙ g) ∙ same
+pub finished_law : FinishedLaw
+unfolding FinishedLaw
+finished_law s bytes size good =
+    let same = finished_record bytes s size (is_good-true bytes good).size in
+    reads_record (cut bytes 4128 s) (ap is_good same ∙ good) ∙ same

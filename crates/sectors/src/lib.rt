@@ -1,27 +1,20 @@
+//! The two otadata sectors: what they read as, the active record, and how a sector is rewritten.
 #![tactic(auto)]
 
-// The two otadata sectors: what they read as, the active record, and how a sector is rewritten.
-mod lending;
+mod laws;
+mod parts;
 mod reading;
 mod rewriting;
 
-pub use lending::{read_at, read_both, restate_at, rewrite_at};
-pub use reading::{active, active_record, higher_of, read_sector, readings};
-pub use rewriting::{restate, rewrite, store};
+pub use laws::{blank_reads_as_none, refused_calls};
+pub use parts::{higher_of, read_at, read_both, restate_at, rewrite_at};
+pub use reading::{
+    SectorNumber, active, active_record, highest, read_sector, readings, usable_sequence,
+};
+pub use rewriting::{Refusal, restate, rewrite, store};
 
-// The size of a sector in bytes, and the number of stores of a rewrite.
+/// The size of a sector in bytes.
 pub const SECTOR_SIZE: usize = 4096;
 
+/// The number of stores of a rewrite: one for each byte of the sector, then one for each byte of the record.
 pub const STORES: usize = 4128;
-
-// The reply numbers of document 01 that this layer gives.
-pub const WRONG_SIZE: u32 = 2;
-
-pub const NO_SUCH_STORE: u32 = 12;
-
-// The number of the sector that holds a record, or none.
-#[derive(Clone, Copy)]
-pub enum Holder {
-    None,
-    Sector(usize),
-}

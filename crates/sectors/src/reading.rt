@@ -1,77 +1,106 @@
-// Reading the two otadata sectors, and the active record.
-ghost use Rattle.std.specs.Prelude.{◌≡◌, map};
-ghost use Rattle.otadata.specs.Answers.{viewed};
-ghost use Rattle.otadata.specs.Records.{view};
-ghost use Rattle.sectors.specs.Sectors.{read_sector, read_sectors, higher_of, active};
-ghost use Rattle.sectors.specs.Sectors.{part, record_part, active_part};
+ghost use Rattle.std.specs.Prelude.{◌≡◌};
+ghost use Rattle.sectors.specs.Part.{part_of};
+ghost use Rattle.sectors.specs.Sector.{number_of_sector, other_than, read_sector, readings, usable_sequence, highest, active, record_part, active_part};
 
-use crate::{Holder, SECTOR_SIZE};
-use otadata::{RECORD_SIZE, Reading, read, sequence_of, usable};
+use crate::SECTOR_SIZE;
+use otadata::{RECORD_SIZE, Reading, Record, Sequence};
 
-// The record of a sector: its first 32 bytes, or an empty part of bytes that are no sector.
+/// One of the two sectors.
+#[derive(Clone, Copy, Debug, PartialEq, Eq, PartialOrd, Ord, Hash)]
+pub enum SectorNumber {
+    /// Sector 0, the first 4,096 bytes of otadata.
+    Zero,
+    /// Sector 1, the 4,096 bytes after them.
+    One,
+}
+
+impl SectorNumber {
+    /// The number of the sector: 0 or 1.
+    pub fn number(self) -> usize
+        ensures { result ≡ number_of_sector self }
+    {
+        match self {
+            SectorNumber::Zero => 0,
+            SectorNumber::One => 1,
+        }
+    }
+
+    /// The other sector.
+    pub fn other(self) -> SectorNumber
+        ensures { result ≡ other_than self }
+    {
+        match self {
+            SectorNumber::Zero => SectorNumber::One,
+            SectorNumber::One => SectorNumber::Zero,
+        }
+    }
+}
+
+/// The record of a sector, or an empty part of bytes that are no sector.
+#[tactic(auto, unfolding(crate::specs::Sector::record_in))]
 fn record_part(sector: &[u8]) -> &[u8]
-    ensures { part result ≡ record_part (part sector.entry) }
+    ensures { part_of result ≡ record_part (part_of sector.entry) }
 {
     if sector.len() == SECTOR_SIZE {
-        return &sector[..RECORD_SIZE];
+        &sector[..RECORD_SIZE]
+    } else {
+        &sector[..0]
     }
-    &sector[..0]
 }
 
-// What a sector reads as, or why it reads as none.
+/// What a sector reads as: its good record, or why it holds none. Bytes that are no sector have a wrong size.
 pub fn read_sector(sector: &[u8]) -> Reading
-    ensures { viewed view result ≡ read_sector sector.now }
+    ensures { result ≡ read_sector sector.now }
 {
-    read(record_part(sector))
+    Record::read(record_part(sector))
 }
 
-// What both sectors read as, indexed by sector number.
+/// What both sectors read as, indexed by sector number.
 pub fn readings(first: &[u8], second: &[u8]) -> [Reading; 2]
-    ensures { map (viewed view) result ≡ read_sectors first.now second.now }
+    ensures { result ≡ readings first.now second.now }
 {
     [read_sector(first), read_sector(second)]
 }
 
-// Which of the two readings is the active record.
-pub fn active(readings: [Reading; 2]) -> Holder
+/// The sequence of a usable record; none of another.
+pub fn usable_sequence(reading: Reading) -> Option<Sequence>
+    ensures { result ≡ usable_sequence reading }
+{
+    match reading {
+        Ok(record) if record.state.is_usable() => Some(record.sequence),
+        _ => None,
+    }
+}
+
+/// The sector of the higher of two sequences, sector 0 on a tie.
+pub fn highest(first: Option<Sequence>, second: Option<Sequence>) -> Option<SectorNumber>
+    ensures { result ≡ highest first second }
+{
+    match (first, second) {
+        (None, None) => None,
+        (Some(_), None) => Some(SectorNumber::Zero),
+        (None, Some(_)) => Some(SectorNumber::One),
+        (Some(first), Some(second)) if first < second => Some(SectorNumber::One),
+        (Some(_), Some(_)) => Some(SectorNumber::Zero),
+    }
+}
+
+/// The sector of the active record: the usable one with the higher sequence, sector 0 on a tie.
+pub fn active(readings: [Reading; 2]) -> Option<SectorNumber>
     ensures { result ≡ active readings }
 {
-    let first = readings[0];
-    let second = readings[1];
-    let higher = sequence_of(first).0 < sequence_of(second).0;
-    higher_of(usable(first), usable(second), higher)
+    let [first, second] = readings;
+    highest(usable_sequence(first), usable_sequence(second))
 }
 
-// Of two records by which of them count, and whether the second has the higher sequence: the higher, sector 0 on a tie.
-pub fn higher_of(first: bool, second: bool, higher: bool) -> Holder
-    ensures { result ≡ higher_of first second higher }
-{
-    if !second {
-        if first {
-            return Holder::Sector(0);
-        }
-        return Holder::None;
-    }
-    if !first {
-        return Holder::Sector(1);
-    }
-    if higher {
-        return Holder::Sector(1);
-    }
-    Holder::Sector(0)
-}
-
-// The active record's 32 bytes, as a part of the sector that holds it, or an empty part.
+// kept: two lent sectors with one lifetime, since the record is handed back as a part of whichever of them holds it
+/// The active record's 32 bytes, as a part of the sector that holds it, or an empty part. Bytes that are no sector hold no record.
 pub fn active_record<'a>(first: &'a [u8], second: &'a [u8]) -> &'a [u8]
-    ensures { part result ≡ active_part (part first.entry) (part second.entry) }
+    ensures { part_of result ≡ active_part (part_of first.entry) (part_of second.entry) }
 {
-    let holder = active(readings(first, second));
-    match holder {
-        Holder::None => &first[..0],
-        Holder::Sector(k) => if k == 0 {
-            record_part(first)
-        } else {
-            record_part(second)
-        },
+    match active(readings(first, second)) {
+        None => &first[..0],
+        Some(SectorNumber::Zero) => record_part(first),
+        Some(SectorNumber::One) => record_part(second),
     }
 }

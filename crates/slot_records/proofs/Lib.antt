@@ -1,3 +1,2 @@
-pub mod Named
 pub mod Next
 pub mod Placed

@@ -1,100 +1,49 @@
--- Where a new record goes, as the code decides it, and the law of it.
--- Assumes nothing.
-use Prim.Native.Nat.{ℕ, ◌+◌, ◌-◌, ◌%◌, ◌<◌, ◌≤◌}
-use mathlib.Core.Path.{◌≡◌, ◌∙◌, refl, sym, ap, subst}
-use mathlib.Core.Bool.{Bool, true, false, cond, ◌&&◌}
-use mathlib.Core.List.{List}
-use lib.Dec.{ltb, leb}
-use lib.ListN.{length, get_or}
-use native.Mathlib.Nat.{mod-eq_of_lt}
-use native.Mathlib.Omega.{arith}
-use borrow.Author.Tests.{lt-ltb, le-ltb, ltb-true, lt-leb, le-leb, leb-true}
-use Rattle.otadata.specs.declared.Slot.{Slot}
-use Rattle.otadata.specs.declared.Sequence.{Sequence}
-use Rattle.otadata.specs.declared.Reading.{Reading}
-use Rattle.sectors.specs.declared.Holder.{Holder}
-use Rattle.sectors.specs.declared.Holder.TheVariants.{None, Sector}
-use Rattle.otadata.specs.Records.{sequence_in}
-use Rattle.sectors.specs.Sectors.{active}
-use Rattle.slot_records.specs.declared.Placement.TheVariants.{Nowhere, At}
+-- The law of the new record.
+use Rattle.std.proofs.Common.{◌≡◌, ℕ, ◌+◌, ◌-◌, ◌%◌, ◌<◌, IsTrue, Bool, true, false, ◌&&◌, nat_lt, nat_le, List, Option, Some, None, if◌then◌else◌, ◌∙◌, refl, sym, ap, subst, arith}
+use native.Mathlib.Nat.{mod-eq_of_lt, add-mod_right}
+use Rattle.std.proofs.lemmas.Bool.Decides.{nat_tests}
+use Rattle.otadata.specs.declared.TheConstants.{LAST_SEQUENCE}
+use Rattle.otadata.specs.declared.records.Record.{Record}
+use Rattle.otadata.specs.declared.records.Slot.{Slot}
+use Rattle.otadata.specs.Record.{Reading, is_sequence}
+use Rattle.sectors.specs.declared.reading.SectorNumber.{SectorNumber}
+use Rattle.slot_records.specs.declared.Placement.{Placement}
+use Rattle.slot_records.specs.Naming.{active_at}
 use Rattle.slot_records.specs.Placing.{next_sequence, new_sequence, free_sector, placement, active_sequence, Smallest, Placed, PlacementLaw}
-use Rattle.slot_records.proofs.Named.{at_active}
-use Rattle.slot_records.proofs.Next.{found_at, next_smallest}
-
-pub free_first : (h : Holder) (k : ℕ) → h ≡ Sector k → k ≡ 0 → 1 ≡ free_sector h
-free_first h k e z = simp (e, z)
-
-pub free_other : (h : Holder) (k : ℕ) → h ≡ Sector k → (k ≡ 0 → ⊥) → 0 ≡ free_sector h
-free_other h k e n = let none : 0 ≡ 1 - k = omega arith in none ∙ simp e
-
--- ---- the sequence of the active record
-
-module _ (rs : List Reading) (h : Holder) where
-  pub none_sequence : h ≡ None → ◌≡◌ {A = Sequence} (record { 0 = 0 }) (active_sequence rs h)
-  none_sequence e = simp e
-
-  pub sequence_of_active : length rs ≡ 2 → h ≡ active rs → (k : ℕ) → h ≡ Sector k → (d : Reading) (q : Sequence) → q ≡ sequence_in (get_or rs k d).verdict
-      → q ≡ active_sequence rs h
-  sequence_of_active size found k e d q read = read ∙ simp (e, at_active rs size h found k e d)
+use Rattle.slot_records.proofs.Next.{next_smallest}
 
 -- with no active record, the first sequence that names slot s is s + 1
-first_sequence : (n : ℕ) (s : Slot) → s.0 < n → next_sequence n s (record { 0 = 0 }) ≡ record { 0 = s.0 + 1 }
-first_sequence n s l = ap (λ (x : ℕ). record { 0 = x }) (found_at n s.0 0 l s.0 l (ap (λ (x : ℕ). x % n) none ∙ mod-eq_of_lt l) ∙ one)
-  where
-    none : 0 + s.0 ≡ s.0
-    none = omega arith
-
-    one : 0 + 1 + s.0 ≡ s.0 + 1
-    one = omega arith
+first_sequence : (n : ℕ) (slot : Slot) → slot.0 < n → next_sequence n slot (record { 0 = 0 }) ≡ record { 0 = slot.0 + 1 }
+unfolding next_sequence
+first_sequence n slot below =
+    let none : 0 % n ≡ 0 = mod-eq_of_lt (omega arith) in
+    let whole : slot.0 + n - 0 % n ≡ slot.0 + n = omega (arith, none) in
+    let steps : (slot.0 + n - 0 % n) % n ≡ slot.0 = ap (λ (x : ℕ). x % n) whole ∙ add-mod_right slot.0 n ∙ mod-eq_of_lt below in
+    ap (λ (x : ℕ). record { 0 = x }) (omega (arith, steps))
 
 -- so the new sequence is the next one in either case
-new_is_next : (n : ℕ) (s : Slot) → s.0 < n → (rs : List Reading) (h : Holder) → new_sequence n s rs h ≡ next_sequence n s (active_sequence rs h)
-new_is_next n s l rs None = sym (first_sequence n s l)
-new_is_next n s l rs (Sector k) = refl
+new_is_next : (n : ℕ) (slot : Slot) (held : Option (SectorNumber × Record)) → slot.0 < n → new_sequence n slot held ≡ next_sequence n slot (active_sequence held)
+new_is_next n slot None below = sym (first_sequence n slot below)
+new_is_next n slot (Some held) below = refl
 
--- ---- the placement
+new_smallest : (n : ℕ) (slot : Slot) (held : Option (SectorNumber × Record)) → slot.0 < n → Smallest n slot (active_sequence held) (new_sequence n slot held)
+new_smallest n slot held below = subst (Smallest n slot (active_sequence held)) (sym (new_is_next n slot held below)) (next_smallest n slot.0 (active_sequence held).0 below)
 
-pub no_slot : (n : ℕ) (s : Slot) (rs : List Reading) → n ≤ s.0 → Nowhere ≡ placement n s rs
-unfolding placement
-no_slot n s rs l = simp (le-ltb _ _ l)
-
-module _ (n : ℕ) (s : Slot) (rs : List Reading) (l : s.0 < n) (h : Holder) (found : h ≡ active rs)
-    (last : Sequence) (is : last ≡ active_sequence rs h) (steps : ℕ) (up : last.0 + steps ≡ (next_sequence n s last).0) where
-  new_sequence_lem : new_sequence n s rs (active rs) ≡ record { 0 = last.0 + steps }
-  new_sequence_lem =
-      ap (new_sequence n s rs) (sym found)
-      ∙ new_is_next n s l rs h
-      ∙ ap (next_sequence n s) (sym is)
-      ∙ sym (ap (λ (x : ℕ). record { 0 = x }) up)
-
-  pub too_high : 4294967294 < last.0 + steps → Nowhere ≡ placement n s rs
-  unfolding placement
-  too_high m = simp (lt-ltb _ _ l, new_sequence_lem, lt-leb _ _ m)
-
-  pub placed_at : last.0 + steps ≤ 4294967294 → (k : ℕ) → k ≡ free_sector h → At k (record { 0 = last.0 + steps }) ≡ placement n s rs
-  unfolding placement
-  placed_at m k free = simp (lt-ltb _ _ l, new_sequence_lem, le-leb _ _ m, ← found, free)
-
--- ---- the law
-
-module _ (n : ℕ) (s : Slot) (rs : List Reading) (k : ℕ) (q : Sequence) where
-  placed_by : (below fits : Bool) → ltb s.0 n ≡ below → leb (new_sequence n s rs (active rs)).0 4294967294 ≡ fits
-      → cond (below && fits) (At (free_sector (active rs)) (new_sequence n s rs (active rs))) Nowhere ≡ At k q → Placed n s rs k q
-  placed_by true true b f e =
-      let l = ltb-true _ _ b in
-      let same_sector : free_sector (active rs) ≡ k = cc in
-      let same : new_sequence n s rs (active rs) ≡ q = cc in
-      let new = subst (Smallest n s (active_sequence rs (active rs))) (sym (new_is_next n s l rs (active rs)) ∙ same) (next_smallest n s.0 (active_sequence rs (active rs)).0 l) in
-      let high : q.0 ≤ 4294967294 = leb-true _ _ (subst (λ (x : Sequence). leb x.0 4294967294 ≡ true) same f) in
-      record {
-        slot = l;
-        sector = sym same_sector;
-        sequence = simp (le-leb 1 q.0 (omega (arith, new.above)), le-leb q.0 4294967294 high);
-        smallest = new;
-      }
-  placed_by true false b f e = absurd (let z : ◌≡◌ {A = ℕ} 0 1 = cc in omega arith)
-  placed_by false fits b f e = absurd (let z : ◌≡◌ {A = ℕ} 0 1 = cc in omega arith)
+-- what is placed is placed where the tests say so
+placed_by : (n : ℕ) (slot : Slot) (readings : List Reading) (placed : Placement) (below fits : Bool)
+    → nat_lt slot.0 n ≡ below → nat_le (new_sequence n slot (active_at readings)).0 LAST_SEQUENCE ≡ fits
+    → (if below && fits then Some (record { sector = free_sector (active_at readings); sequence = new_sequence n slot (active_at readings) }) else None) ≡ Some placed
+    → Placed n slot readings placed
+placed_by n slot readings placed true true b f is =
+    let held = active_at readings in
+    let made : record { sector = free_sector held; sequence = new_sequence n slot held } ≡ placed = cc in
+    let below : slot.0 < n = grind (arith, nat_tests) in
+    let smallest = new_smallest n slot held below in
+    let sequence : IsTrue (is_sequence (new_sequence n slot held).0) = grind (arith, nat_tests, smallest.above) in
+    subst (Placed n slot readings) made (record { below = below; sector = refl; sequence = sequence; smallest = smallest })
+placed_by n slot readings placed true false b f is = cc
+placed_by n slot readings placed false fits b f is = cc
 
 pub placement_law : PlacementLaw
 unfolding PlacementLaw placement
-placement_law n s rs k q e = placed_by n s rs k q (ltb s.0 n) (leb (new_sequence n s rs (active rs)).0 4294967294) refl refl e
+placement_law n slot readings placed is = placed_by n slot readings placed (nat_lt slot.0 n) (nat_le (new_sequence n slot (active_at readings)).0 LAST_SEQUENCE) refl refl is

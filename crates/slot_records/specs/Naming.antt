@@ -1,44 +1,56 @@
--- Which records name a slot s, with n slots.
-use Rattle.std.specs.Prelude.{ℕ, Bool, false, cond, List, eqb, get_or}
-use Rattle.otadata.specs.declared.Slot.{Slot}
-use Rattle.otadata.specs.declared.State.TheVariants.{Pending}
-use Rattle.otadata.specs.declared.Verdict.{Verdict}
-use Rattle.otadata.specs.declared.Reading.{Reading}
-use Rattle.sectors.specs.declared.Holder.{Holder}
-use Rattle.sectors.specs.declared.Holder.TheVariants.{None, Sector}
-use Rattle.otadata.specs.Records.{no_reading, if_good, in_state, names_slot}
-use Rattle.sectors.specs.Sectors.{highest_of, active}
+-- Which record names a slot, with n slots.
+use Rattle.std.specs.Prelude.{ℕ, Bool, false, ◌==◌, List, [], ◌∷◌, Option, Some, None, Ok, option_map, option_and_then, if◌then◌else◌}
+use Rattle.std.specs.Option.{option_or}
+use Rattle.std.specs.Result.{result_ok}
+use Rattle.otadata.specs.declared.records.Sequence.{Sequence}
+use Rattle.otadata.specs.declared.records.Slot.{Slot}
+use Rattle.otadata.specs.declared.records.Record.{Record}
+use Rattle.otadata.specs.declared.states.State.TheVariants.{Pending}
+use Rattle.otadata.specs.Record.{Reading, slot_of, in_state}
+use Rattle.sectors.specs.declared.reading.SectorNumber.{SectorNumber}
+use Rattle.sectors.specs.declared.reading.SectorNumber.TheVariants.{Zero, One}
+use Rattle.sectors.specs.Sector.{highest, active}
 
--- the record is good and names slot s
-abbrev pub names : ℕ → Slot → Verdict → Bool
-names n s v = if_good (λ q state. eqb (names_slot n q).0 s.0) false v
+-- a good record names a slot
+abbrev pub names : ℕ → Slot → Record → Bool
+names n slot r = (slot_of n r.sequence).0 == slot.0
 
--- the sector, where its record names slot s
-abbrev pub if_names : ℕ → Slot → List Reading → Holder → Holder
-if_names n s rs None = None
-if_names n s rs (Sector k) = cond (names n s (get_or rs k no_reading).verdict) (Sector k) None
+-- ---- the active record
 
--- the sector of the active record, where that names slot s
-unfoldable pub active_naming : ℕ → Slot → List Reading → Holder
-active_naming n s rs = if_names n s rs (active rs)
+abbrev pub held_at : Reading → Reading → SectorNumber → Option (SectorNumber × Record)
+held_at first second Zero = option_map (λ r. (Zero, r)) (result_ok first)
+held_at first second One = option_map (λ r. (One, r)) (result_ok second)
 
--- the sector of the good record of highest sequence that names slot s, sector 0 on a tie
-unfoldable pub highest_naming : ℕ → Slot → List Reading → Holder
-highest_naming n s rs = highest_of (λ (r : Reading). names n s r.verdict) rs
+-- the active record, with its sector
+unfoldable pub active_at : List Reading → Option (SectorNumber × Record)
+active_at [] = None
+active_at (first ∷ []) = None
+active_at (first ∷ second ∷ rest) = option_and_then (held_at first second) (active (first ∷ second ∷ rest))
 
--- the first sector of two that is there
-abbrev pub or_holder : Holder → Holder → Holder
-or_holder None other = other
-or_holder (Sector k) other = Sector k
+-- the sector of the active record, if that names the slot
+unfoldable pub active_naming : ℕ → Slot → List Reading → Option SectorNumber
+active_naming n slot readings = option_and_then (λ held. if names n slot held.1 then Some held.0 else None) (active_at readings)
 
--- the active record if it names slot s, else the good record of highest sequence that names it
-unfoldable pub naming_record : ℕ → Slot → List Reading → Holder
-naming_record n s rs = or_holder (active_naming n s rs) (highest_naming n s rs)
-
-abbrev pub pending_in : List Reading → Holder → Bool
-pending_in rs None = false
-pending_in rs (Sector k) = in_state Pending (get_or rs k no_reading).verdict
+abbrev pub is_pending : Option (SectorNumber × Record) → Bool
+is_pending None = false
+is_pending (Some held) = in_state Pending (Ok held.1)
 
 -- the active record is pending
 unfoldable pub active_pending : List Reading → Bool
-active_pending rs = pending_in rs (active rs)
+active_pending readings = is_pending (active_at readings)
+
+-- ---- the record that names a slot
+
+-- the sequence of a good record that names the slot
+unfoldable pub naming_sequence : ℕ → Slot → Reading → Option Sequence
+naming_sequence n slot reading = option_and_then (λ r. if names n slot r then Some r.sequence else None) (result_ok reading)
+
+-- the sector of the good record of highest sequence that names the slot, sector 0 on a tie
+unfoldable pub highest_naming : ℕ → Slot → List Reading → Option SectorNumber
+highest_naming n slot [] = None
+highest_naming n slot (first ∷ []) = None
+highest_naming n slot (first ∷ second ∷ rest) = highest (naming_sequence n slot first) (naming_sequence n slot second)
+
+-- the active record if it names the slot, else the good record of highest sequence that names it
+unfoldable pub naming_record : ℕ → Slot → List Reading → Option SectorNumber
+naming_record n slot readings = option_or (active_naming n slot readings) (highest_naming n slot readings)

@@ -1,66 +1,64 @@
--- Where a new record for a slot s goes, with n slots, and its sequence.
-use Rattle.std.specs.Prelude.{ℕ, ◌+◌, ◌-◌, ◌<◌, ◌≤◌, ◌≡◌, Bool, true, cond, ◌&&◌, List, eqb, ltb, leb, get_or}
-use Rattle.otadata.specs.declared.Slot.{Slot}
-use Rattle.otadata.specs.declared.Sequence.{Sequence}
-use Rattle.otadata.specs.declared.Reading.{Reading}
-use Rattle.sectors.specs.declared.Holder.{Holder}
-use Rattle.sectors.specs.declared.Holder.TheVariants.{None, Sector}
-use Rattle.otadata.specs.Records.{last_sequence, is_sequence, names_slot, no_reading, sequence_in}
-use Rattle.sectors.specs.Sectors.{active}
-use Rattle.partitions.specs.PartitionList.{first_from}
+-- Where a new record for a slot goes, with n slots, and its sequence.
+use Rattle.std.specs.Prelude.{ℕ, ◌+◌, ◌-◌, ◌%◌, ◌<◌, ◌≤◌, ◌≡◌, IsTrue, ◌&&◌, nat_lt, nat_le, List, Option, Some, None, if◌then◌else◌}
+use Rattle.otadata.specs.declared.TheConstants.{LAST_SEQUENCE}
+use Rattle.otadata.specs.declared.records.Sequence.{Sequence}
+use Rattle.otadata.specs.declared.records.Slot.{Slot}
+use Rattle.otadata.specs.declared.records.Record.{Record}
+use Rattle.otadata.specs.Record.{Reading, is_sequence, slot_of}
+use Rattle.sectors.specs.declared.reading.SectorNumber.{SectorNumber}
+use Rattle.sectors.specs.declared.reading.SectorNumber.TheVariants.{Zero}
+use Rattle.sectors.specs.Sector.{other_than}
 use Rattle.slot_records.specs.declared.Placement.{Placement}
-use Rattle.slot_records.specs.declared.Placement.TheVariants.{Nowhere, At}
+use Rattle.slot_records.specs.Naming.{active_at}
 
--- a record of sequence x would name slot s
-abbrev pub would_name : ℕ → Slot → ℕ → Bool
-would_name n s x = eqb (names_slot n (record { 0 = x })).0 s.0
-
--- the smallest sequence above q that names slot s: the first among the n numbers after q, each of which names another slot
+-- the smallest sequence above this one that names the slot: the one after it names slot `above mod n`, and each further one the next slot,
+-- after the last slot 0
 unfoldable pub next_sequence : ℕ → Slot → Sequence → Sequence
-next_sequence n s q = record { 0 = first_from (q.0 + 1) n (would_name n s) }
+next_sequence n slot above = record { 0 = above.0 + 1 + (slot.0 + n - above.0 % n) % n }
 
--- the sequence of the new record: the smallest above the active one that names slot s; with no active record s + 1
-abbrev pub new_sequence : ℕ → Slot → List Reading → Holder → Sequence
-new_sequence n s rs None = record { 0 = s.0 + 1 }
-new_sequence n s rs (Sector k) = next_sequence n s (sequence_in (get_or rs k no_reading).verdict)
+-- the sequence of the new record: the smallest above the active one that names the slot; with no active record the slot's number + 1
+abbrev pub new_sequence : ℕ → Slot → Option (SectorNumber × Record) → Sequence
+new_sequence n slot None = record { 0 = slot.0 + 1 }
+new_sequence n slot (Some held) = next_sequence n slot held.1.sequence
 
 -- the sector that isn't active; with no active record sector 0
-abbrev pub free_sector : Holder → ℕ
-free_sector None = 0
-free_sector (Sector k) = 1 - k
+abbrev pub free_sector : Option (SectorNumber × Record) → SectorNumber
+free_sector None = Zero
+free_sector (Some held) = other_than held.0
 
--- where the new record goes, and its sequence; nowhere, where s is none of the n slots or that would pass 4,294,967,294
-unfoldable pub placement : ℕ → Slot → List Reading → Placement
-placement n s rs =
-    let q = new_sequence n s rs (active rs) in
-    cond (ltb s.0 n && leb q.0 last_sequence) (At (free_sector (active rs)) q) Nowhere
+-- where the new record goes, and its sequence; nothing where the slot is none of the n, or that would pass the last sequence
+unfoldable pub placement : ℕ → Slot → List Reading → Option Placement
+placement n slot readings =
+    let held = active_at readings in
+    let sequence = new_sequence n slot held in
+    if nat_lt slot.0 n && nat_le sequence.0 LAST_SEQUENCE then Some (record { sector = free_sector held; sequence = sequence }) else None
 
 -- ---- the law of the next sequence, over n
 
--- r is the smallest sequence above q that names slot s, and at most n above q
-pub record Smallest (n : ℕ) (s : Slot) (q r : Sequence) : Type 0 where
-  pub above : q.0 < r.0
-  pub names : names_slot n r ≡ s
-  pub smallest : (x : Sequence) → q.0 < x.0 → names_slot n x ≡ s → r.0 ≤ x.0
-  pub within : r.0 ≤ q.0 + n
+-- a sequence is the smallest above another that names the slot, and at most n above it
+pub record Smallest (n : ℕ) (slot : Slot) (other next : Sequence) : Type 0 where
+  pub above : other.0 < next.0
+  pub names : slot_of n next ≡ slot
+  pub smallest : (x : Sequence) → other.0 < x.0 → slot_of n x ≡ slot → next.0 ≤ x.0
+  pub within : next.0 ≤ other.0 + n
 
 unfoldable pub NextLaw : Type 0
-NextLaw = (n : ℕ) (s : Slot) (q : Sequence) → s.0 < n → Smallest n s q (next_sequence n s q)
+NextLaw = (n : ℕ) (slot : Slot) (other : Sequence) → slot.0 < n → Smallest n slot other (next_sequence n slot other)
 
--- ---- the law of the placement
+-- ---- the law of the new record
 
 -- the sequence of the active record; where there is none, 0
-abbrev pub active_sequence : List Reading → Holder → Sequence
-active_sequence rs None = record { 0 = 0 }
-active_sequence rs (Sector k) = sequence_in (get_or rs k no_reading).verdict
+abbrev pub active_sequence : Option (SectorNumber × Record) → Sequence
+active_sequence None = record { 0 = 0 }
+active_sequence (Some held) = held.1.sequence
 
--- a new record goes into a sector that isn't active; its sequence can be a good record's, names the slot, and is the smallest above the
--- active one's that does
-pub record Placed (n : ℕ) (s : Slot) (rs : List Reading) (k : ℕ) (q : Sequence) : Type 0 where
-  pub slot : s.0 < n
-  pub sector : k ≡ free_sector (active rs)
-  pub sequence : is_sequence q.0 ≡ true
-  pub smallest : Smallest n s (active_sequence rs (active rs)) q
+-- a new record goes into the sector that isn't active; its sequence can be a good record's, names the slot, and is the smallest above
+-- the active one's that does
+pub record Placed (n : ℕ) (slot : Slot) (readings : List Reading) (placed : Placement) : Type 0 where
+  pub below : slot.0 < n
+  pub sector : placed.sector ≡ free_sector (active_at readings)
+  pub sequence : IsTrue (is_sequence placed.sequence.0)
+  pub smallest : Smallest n slot (active_sequence (active_at readings)) placed.sequence
 
 unfoldable pub PlacementLaw : Type 0
-PlacementLaw = (n : ℕ) (s : Slot) (rs : List Reading) (k : ℕ) (q : Sequence) → placement n s rs ≡ At k q → Placed n s rs k q
+PlacementLaw = (n : ℕ) (slot : Slot) (readings : List Reading) (placed : Placement) → placement n slot readings ≡ Some placed → Placed n slot readings placed

@@ -1,17 +1,17 @@
+//! Which record names a slot, and where a new record for a slot goes.
 #![tactic(auto)]
 
-// Which records name a slot, and where a new record for a slot goes.
 mod naming;
 mod placing;
 
 pub use naming::{active_naming, active_pending, naming_record};
 use otadata::Sequence;
 pub use placing::place_new;
+use sectors::SectorNumber;
 
-// Where a new record goes: a sector and the record's sequence, or nowhere, since there is no such slot or that sequence would pass the
-// last one.
-#[derive(Clone, Copy)]
-pub enum Placement {
-    Nowhere,
-    At(usize, Sequence),
+/// Where a new record goes, and its sequence.
+#[derive(Clone, Copy, Debug, PartialEq, Eq)]
+pub struct Placement {
+    pub sector: SectorNumber,
+    pub sequence: Sequence,
 }

@@ -1,57 +1,42 @@
-// Where a new record for a slot goes, and its sequence.
-ghost use Rattle.std.specs.Prelude.{◌≡◌, ◌+◌, ◌<◌};
-ghost use Rattle.sectors.specs.Sectors.{active};
-ghost use Rattle.slot_records.specs.Placing.{next_sequence, free_sector, placement, active_sequence};
+ghost use Rattle.std.specs.Prelude.{◌≡◌, ◌<◌};
+ghost use Rattle.slot_records.specs.Placing.{next_sequence, placement, NextLaw, PlacementLaw};
 
 use crate::Placement;
-use otadata::{LAST_SEQUENCE, Reading, Sequence, Slot, sequence_of};
-use sectors::{Holder, active};
+use crate::naming::active_at;
+use otadata::{LAST_SEQUENCE, Reading, Sequence, Slot};
+use sectors::SectorNumber;
 
-// Where a new record that names the slot goes, with n slots.
-pub fn place_new(readings: [Reading; 2], n: u32, slot: Slot) -> Placement
-    ensures { result ≡ placement n slot readings }
+/// Where a new record that names the slot goes, with `n` slots, and its sequence; nothing where there is no such slot, or the sequence
+/// would pass the last one.
+#[tactic(auto, using(crate::proofs::Next::next_law, crate::proofs::Placed::placement_law), unfolding(crate::specs::Placing::placement))]
+pub fn place_new(readings: [Reading; 2], n: u32, slot: Slot) -> Option<Placement>
+    ensures exact { result ≡ placement n slot readings }
+    ensures next { NextLaw }
+    ensures placed { PlacementLaw }
 {
     if slot.0 >= n {
-        return Placement::Nowhere;
+        return None;
     }
-    let holder = active(readings);
-    let last = active_sequence(readings, holder);
-    let steps = steps_to(last, n, slot);
-    if last.0 as u64 + steps as u64 > LAST_SEQUENCE as u64 {
-        return Placement::Nowhere;
+    let (sector, next) = match active_at(readings) {
+        None => (SectorNumber::Zero, u64::from(slot.0) + 1),
+        Some((active, record)) => (active.other(), next_number(record.sequence, n, slot)),
+    };
+    if next > u64::from(LAST_SEQUENCE) {
+        return None;
     }
-    Placement::At(free_sector(holder), Sequence(last.0 + steps))
+    Some(Placement {
+        sector,
+        sequence: Sequence(next as u32),
+    })
 }
 
-// The sector that is not active; without an active record sector 0.
-fn free_sector(holder: Holder) -> usize
-    ensures { result ≡ free_sector holder }
-{
-    match holder {
-        Holder::None => 0,
-        Holder::Sector(k) => if k == 0 { 1 } else { 0 },
-    }
-}
-
-// The sequence of the active record; without one, 0.
-fn active_sequence(readings: [Reading; 2], holder: Holder) -> Sequence
-    requires { holder ≡ active readings }
-    ensures { result ≡ active_sequence readings holder }
-{
-    match holder {
-        Holder::None => Sequence(0),
-        Holder::Sector(k) => sequence_of(readings[k]),
-    }
-}
-
-// How far above a sequence the next one is that names the slot, with n slots.
-fn steps_to(after: Sequence, n: u32, slot: Slot) -> u32
+/// The number of the smallest sequence above this one that names the slot. It may pass the last sequence.
+#[tactic(auto, unfolding(crate::specs::Placing::next_sequence))]
+fn next_number(above: Sequence, n: u32, slot: Slot) -> u64
     requires { slot.0 < n }
-    ensures { after.0 + result ≡ (next_sequence n slot after).0 }
+    ensures { result ≡ (next_sequence n slot above).0 }
 {
-    let first = after.0 % n;
-    if first <= slot.0 {
-        return slot.0 - first + 1;
-    }
-    n - first + slot.0 + 1
+    let n = u64::from(n);
+    let above = u64::from(above.0);
+    above + 1 + (u64::from(slot.0) + n - above % n) % n
 }

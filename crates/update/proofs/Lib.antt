@@ -1,5 +1,1 @@
-pub mod Fallback
-pub mod MarkLaws
-pub mod QueryLaws
-pub mod SetLaws
-pub mod TestLaws
+pub mod Answers

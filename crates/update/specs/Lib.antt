@@ -1,6 +1,6 @@
-pub mod Replies
 pub mod Tests
 pub mod SetBoot
 pub mod Marks
-pub mod Fallback
+pub mod Invalid
 pub mod Queries
+pub mod Answer

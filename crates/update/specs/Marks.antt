@@ -1,65 +1,67 @@
--- Mark-valid and mark-invalid: what becomes of the active record when the running app is confirmed or given up.
-use Rattle.std.specs.Prelude.{ℕ, Bool, false, cond, List, eqb, length}
-use Rattle.otadata.specs.Answers.{outcome}
-use Rattle.otadata.specs.declared.Slot.{Slot}
-use Rattle.otadata.specs.declared.State.TheVariants.{Valid, Invalid}
-use Rattle.sectors.specs.Sectors.{sector_reading, sector_at, readings_of, with_state}
+-- Mark-valid: the running app is confirmed.
+use Rattle.std.specs.Prelude.{ℕ, List, ◌++◌, length, take, drop, Result, Ok, Err, if◌then◌else◌}
+use Rattle.otadata.specs.declared.records.Slot.{Slot}
+use Rattle.otadata.specs.declared.states.State.TheVariants.{Valid}
+use Rattle.otadata.specs.Record.{Reading, in_state}
 use Rattle.efuse.specs.declared.SecureVersion.{SecureVersion}
+use Rattle.sectors.specs.declared.TheConstants.{SECTOR_SIZE}
+use Rattle.sectors.specs.declared.reading.SectorNumber.{SectorNumber}
+use Rattle.sectors.specs.declared.reading.SectorNumber.TheVariants.{Zero, One}
+use Rattle.sectors.specs.Sector.{read_sector}
+use Rattle.sectors.specs.Rewrite.{restated}
 use Rattle.app_image.specs.declared.Facts.{Facts}
-use Rattle.boot_choice.specs.declared.Settings.{Settings}
-use Rattle.boot_choice.specs.NodeRegister.{raised_to}
-use Rattle.boot.specs.declared.Reply.{Reply as BootReply}
-use Rattle.boot.specs.declared.Reply.TheVariants.{Refused as BootRefused, Starts}
-use Rattle.boot.specs.Boot.{boot}
-use Rattle.slot_records.specs.Naming.{active_naming}
-use Rattle.update.specs.Replies.{refused, done, Outcome, not_marked, marked_invalid, InvalidOutcome}
-use Rattle.update.specs.Tests.{accepted_slot, examined, after_tests, after_image, after_naming}
-use Rattle.otadata.specs.Records.{in_state}
+use Rattle.partitions.specs.declared.list.App.TheVariants.{OtaSlot}
+use Rattle.node.specs.declared.Settings.{Settings}
+use Rattle.node.specs.declared.Node.{Node}
+use Rattle.node.specs.declared.refusal.Refusal.{Refusal}
+use Rattle.node.specs.Settings.{raised_to}
+use Rattle.node.specs.Node.{admitted}
+use Rattle.node.specs.Refusal.{◌>>=◌}
+use Rattle.update.specs.declared.Completion.{Completion}
+use Rattle.update.specs.Tests.{node_with, running_sector, readings_in, changed_at}
 
--- ---- mark-valid
-
--- the record of sector k becomes valid; nothing is written if it was
-unfoldable pub confirmed : ℕ → List ℕ → List ℕ
-confirmed k o = cond (in_state Valid (sector_reading (sector_at k o)).verdict) o (with_state Valid k o)
+-- the record of a sector becomes valid; nothing is written if it was
+unfoldable pub confirmed : List ℕ → List ℕ
+confirmed sector = if in_state Valid (read_sector sector) then sector else restated Valid sector
 
 -- with anti-rollback on, the register raised to the app's version
 abbrev pub register_raised : Settings → SecureVersion → ℕ
-register_raised settings v = cond settings.anti_rollback (raised_to settings v) settings.efuse
+register_raised settings version = if settings.anti_rollback then raised_to settings version else settings.efuse
 
--- the mark of the record of sector k, of an app with these facts
-abbrev pub confirms : Settings → ℕ → List ℕ → Facts → Outcome
-confirms settings k o facts = outcome (done (register_raised settings facts.version) facts) (confirmed k o)
+-- ---- the tests in their order
 
--- 8, then 5 and 6, with n slots
-abbrev pub valid_named : List ℕ → List ℕ → List ℕ → Settings → Slot → ℕ → Outcome
-valid_named list flash o settings s n =
-    after_naming (refused settings) o (active_naming n s (readings_of o))
-    (λ (k : ℕ). after_image o (examined list flash settings s) (confirms settings k o))
+-- 8, then 5 and 6: the sector of the active record, which names the running slot, and the facts of that slot's image
+unfoldable pub confirmation : Node → List Reading → Slot → Result (SectorNumber × Facts) Refusal
+confirmation node readings running = do
+  sector ← running_sector node readings running
+  facts ← admitted node (OtaSlot running)
+  Ok (sector, facts)
 
--- document 01's mark-valid of the running slot s
-unfoldable pub mark_valid : List ℕ → List ℕ → List ℕ → Settings → Slot → Outcome
-mark_valid list flash o settings s =
-    after_tests (refused settings) o (accepted_slot list (length flash) (length o) settings s) (valid_named list flash o settings s)
+-- ---- the reply and the bytes
 
--- ---- mark-invalid
+abbrev pub reply_to : Settings → Result (SectorNumber × Facts) Refusal → Result Completion Refusal
+reply_to settings (Err refusal) = Err refusal
+reply_to settings (Ok found) = Ok (record { register = register_raised settings found.1.version; facts = found.1 })
 
--- boot would choose nothing: it is refused with 10
-abbrev pub chooses_nothing : BootReply → Bool
-chooses_nothing (BootRefused refusal) = eqb refusal.number 10
-chooses_nothing (Starts start) = false
+-- what is left of sector k
+abbrev pub left_at : SectorNumber → Result (SectorNumber × Facts) Refusal → List ℕ → List ℕ
+left_at k (Err refusal) sector = sector
+left_at k (Ok found) sector = changed_at k found.0 confirmed sector
 
--- 9 exactly if boot on the resulting bytes would choose nothing
-abbrev pub unless_last : List ℕ → List ℕ → Settings → List ℕ → List ℕ → InvalidOutcome
-unless_last list flash settings o left =
-    cond (chooses_nothing (boot list flash left settings).reply) (outcome (not_marked settings 9) o) (outcome (marked_invalid settings) left)
+-- ---- the call
 
--- 8, then 9, with n slots; the active record becomes invalid
-abbrev pub invalid_named : List ℕ → List ℕ → List ℕ → Settings → Slot → ℕ → InvalidOutcome
-invalid_named list flash o settings s n =
-    after_naming (not_marked settings) o (active_naming n s (readings_of o))
-    (λ (k : ℕ). unless_last list flash settings o (with_state Invalid k o))
+abbrev pub reply_in : List ℕ → Slot → Result Node Refusal → Result Completion Refusal
+reply_in otadata running (Err refusal) = Err refusal
+reply_in otadata running (Ok node) = reply_to node.settings (confirmation node (readings_in otadata) running)
 
--- document 01's mark-invalid of the running slot s
-unfoldable pub mark_invalid : List ℕ → List ℕ → List ℕ → Settings → Slot → InvalidOutcome
-mark_invalid list flash o settings s =
-    after_tests (not_marked settings) o (accepted_slot list (length flash) (length o) settings s) (invalid_named list flash o settings s)
+abbrev pub bytes_in : List ℕ → Slot → Result Node Refusal → List ℕ
+bytes_in otadata running (Err refusal) = otadata
+bytes_in otadata running (Ok node) =
+    let found = confirmation node (readings_in otadata) running in
+    left_at Zero found (take SECTOR_SIZE otadata) ++ left_at One found (drop SECTOR_SIZE otadata)
+
+unfoldable pub mark_valid_reply : List ℕ → List ℕ → List ℕ → Settings → Slot → Result Completion Refusal
+mark_valid_reply words flash otadata settings running = reply_in otadata running (node_with words flash (length otadata) settings running)
+
+unfoldable pub mark_valid_bytes : List ℕ → List ℕ → List ℕ → Settings → Slot → List ℕ
+mark_valid_bytes words flash otadata settings running = bytes_in otadata running (node_with words flash (length otadata) settings running)

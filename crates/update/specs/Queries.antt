@@ -1,70 +1,54 @@
--- The state query and the next update slot.
-use Rattle.std.specs.Prelude.{ℕ, ◌+◌, ◌%◌, ◌<◌, cond, List, length, get_or}
-use Rattle.otadata.specs.Answers.{Answered}
-use Rattle.otadata.specs.declared.Slot.{Slot}
-use Rattle.otadata.specs.declared.Verdict.{Verdict}
-use Rattle.otadata.specs.declared.Reading.{Reading}
-use Rattle.sectors.specs.declared.Holder.{Holder}
-use Rattle.sectors.specs.declared.Holder.TheVariants.{None, Sector}
-use Rattle.otadata.specs.Records.{no_reading, if_good}
-use Rattle.partitions.specs.declared.App.{App}
-use Rattle.partitions.specs.declared.App.TheVariants.{Factory, OtaSlot}
-use Rattle.partitions.specs.declared.Checked.{Checked}
-use Rattle.partitions.specs.declared.Checked.TheVariants.{Refused as NotAccepted, Accepted}
-use Rattle.boot_choice.specs.declared.Settings.{Settings}
-use Rattle.boot_choice.specs.Acceptance.{accepted_node, accepted}
-use Rattle.sectors.specs.Sectors.{readings_of}
+-- The state query and the next update slot. They write nothing.
+use Rattle.std.specs.Prelude.{ℕ, ◌+◌, ◌%◌, List, [], ◌∷◌, length, Option, None, option_map, option_and_then, ok_or, Result, Ok}
+use Rattle.std.specs.Result.{result_ok}
+use Rattle.otadata.specs.declared.records.Slot.{Slot}
+use Rattle.otadata.specs.declared.states.State.{State}
+use Rattle.otadata.specs.Record.{Reading}
+use Rattle.sectors.specs.declared.reading.SectorNumber.{SectorNumber}
+use Rattle.sectors.specs.declared.reading.SectorNumber.TheVariants.{Zero, One}
 use Rattle.slot_records.specs.Naming.{naming_record}
-use Rattle.update.specs.declared.Queried.{Queried}
-use Rattle.update.specs.declared.NextSlot.{NextSlot}
-use Rattle.update.specs.Replies.{not_found, found, no_next, next}
-use Rattle.update.specs.Tests.{slot_test, running_test, unconfirmed}
+use Rattle.partitions.specs.declared.list.App.{App}
+use Rattle.partitions.specs.declared.list.App.TheVariants.{Factory, OtaSlot}
+use Rattle.partitions.specs.PartitionList.{list_of, slot_count}
+use Rattle.node.specs.declared.Settings.{Settings}
+use Rattle.node.specs.declared.refusal.Refusal.{Refusal}
+use Rattle.node.specs.declared.refusal.Refusal.TheVariants.{NotNamed}
+use Rattle.node.specs.Node.{list_test, size_test, node_of}
+use Rattle.node.specs.Refusal.{◌>>=◌, ◌>>◌}
+use Rattle.boot_choice.specs.Choice.{slots_of}
+use Rattle.update.specs.Tests.{slot_test, pending_test, readings_in}
 
 -- ---- the state query
 
--- only a good record has a state
-abbrev pub state_in : Verdict → Answered Queried
-state_in v = if_good (λ q state. found state) (not_found 8) v
+abbrev pub state_in : Reading → Reading → SectorNumber → Option State
+state_in first second Zero = option_map (λ r. r.state) (result_ok first)
+state_in first second One = option_map (λ r. r.state) (result_ok second)
 
--- 8: no good record names the slot
-abbrev pub state_at : List Reading → Holder → Answered Queried
-state_at rs None = not_found 8
-state_at rs (Sector k) = state_in (get_or rs k no_reading).verdict
+-- the active record's state if it names the slot, else that of the good record of highest sequence that names it
+unfoldable pub state_naming : ℕ → Slot → List Reading → Option State
+state_naming n slot [] = None
+state_naming n slot (first ∷ []) = None
+state_naming n slot (first ∷ second ∷ rest) = option_and_then (state_in first second) (naming_record n slot (first ∷ second ∷ rest))
 
--- the active record's state if it names slot s, else that of the good record of highest sequence naming it, with n slots
-unfoldable pub state_naming : ℕ → Slot → List Reading → Answered Queried
-state_naming n s rs = state_at rs (naming_record n s rs)
-
--- 1, 2 and 4, then the rest
-abbrev pub query_tested : List ℕ → Slot → Checked → Answered Queried
-query_tested o s (NotAccepted number) = not_found number
-query_tested o s (Accepted listing) = state_naming listing.slots s (readings_of o)
-
--- document 01's state query of slot s
-unfoldable pub state_query : List ℕ → ℕ → List ℕ → Slot → Answered Queried
-state_query list capacity o s = query_tested o s (slot_test s (accepted_node list capacity (length o)))
+-- 1, 2, 4 and 8
+unfoldable pub state_query : List ℕ → List ℕ → List ℕ → Slot → Result State Refusal
+state_query words flash otadata slot = do
+  list ← list_test (list_of words flash)
+  size_test (length otadata)
+  slot_test (slot_count list.entries) slot
+  ok_or (state_naming (slot_count list.entries) slot (readings_in otadata)) NotNamed
 
 -- ---- the next update slot
 
--- (running + 1) mod n; from factory, slot 0
-abbrev pub slot_after : ℕ → App → Slot
-slot_after n Factory = record { 0 = 0 }
-slot_after n (OtaSlot s) = record { 0 = (s.0 + 1) % n }
+-- 4, and (running + 1) mod n; from factory, slot 0
+unfoldable pub slot_after : ℕ → App → Result Slot Refusal
+slot_after n Factory = Ok (record { 0 = 0 })
+slot_after n (OtaSlot slot) = slot_test n slot >> Ok (record { 0 = (slot.0 + 1) % n })
 
--- a running slot is one of n
-abbrev pub Counted : ℕ → App → Type 0
-Counted n Factory = Unit
-Counted n (OtaSlot s) = s.0 < n
-
--- 11, then the slot
-unfoldable pub next_of : ℕ → Settings → App → List Reading → Answered NextSlot
-next_of n settings running rs = cond (unconfirmed settings rs) (no_next 11) (next (slot_after n running))
-
--- 1 to 4, then the rest
-abbrev pub next_tested : List ℕ → Settings → App → Checked → Answered NextSlot
-next_tested o settings running (NotAccepted number) = no_next number
-next_tested o settings running (Accepted listing) = next_of listing.slots settings running (readings_of o)
-
--- document 01's next update slot, from the running app
-unfoldable pub next_slot : List ℕ → ℕ → List ℕ → Settings → App → Answered NextSlot
-next_slot list capacity o settings running = next_tested o settings running (running_test running (accepted list capacity (length o) settings))
+-- 1 to 4 and 11
+unfoldable pub next_slot : List ℕ → List ℕ → List ℕ → Settings → App → Result Slot Refusal
+next_slot words flash otadata settings running = do
+  node ← node_of words flash (length otadata) settings
+  next ← slot_after (slots_of node) running
+  pending_test node.settings (readings_in otadata)
+  Ok next

@@ -1,70 +1,47 @@
--- The tests that several calls share, in the order of document 01's table: 4, 5 and 6, 11.
-use Rattle.std.specs.Prelude.{ℕ, Bool, cond, not, ◌&&◌, List, ltb}
-use Rattle.otadata.specs.Answers.{Answered, Outcome as Answers-as-Outcome, outcome}
-use Rattle.otadata.specs.declared.Slot.{Slot}
-use Rattle.otadata.specs.declared.Reading.{Reading}
-use Rattle.sectors.specs.declared.Holder.{Holder}
-use Rattle.sectors.specs.declared.Holder.TheVariants.{None, Sector}
-use Rattle.partitions.specs.declared.App.{App}
-use Rattle.partitions.specs.declared.App.TheVariants.{Factory, OtaSlot}
-use Rattle.partitions.specs.declared.Listing.{Listing}
-use Rattle.partitions.specs.declared.Checked.{Checked}
-use Rattle.partitions.specs.declared.Checked.TheVariants.{Refused as NotAccepted, Accepted}
-use Rattle.app_image.specs.declared.Facts.{Facts}
-use Rattle.app_image.specs.declared.Checked.{Checked as ImageChecked}
-use Rattle.app_image.specs.declared.Checked.TheVariants.{Refused as ImageRefused, Accepted as ImageAccepted}
-use Rattle.app_image.specs.Check.{check}
-use Rattle.boot_choice.specs.declared.Settings.{Settings}
-use Rattle.boot_choice.specs.Acceptance.{refuse_if, accepted}
-use Rattle.boot_choice.specs.Choice.{image, too_old}
-use Rattle.slot_records.specs.Naming.{active_pending}
-use Rattle.update.specs.declared.Examined.{Examined}
-use Rattle.update.specs.declared.Examined.TheVariants.{Unfit, Fit}
-use Rattle.update.specs.Replies.{refusal, image_refusal, refused_by, Outcome}
+-- What the calls share: tests 4, 8 and 11, and the write into one of the two sectors.
+use Rattle.std.specs.Prelude.{ℕ, not, ◌&&◌, nat_lt, List, take, drop, ok_or, Result, Ok}
+use Rattle.otadata.specs.declared.records.Slot.{Slot}
+use Rattle.otadata.specs.Record.{Reading}
+use Rattle.sectors.specs.declared.TheConstants.{SECTOR_SIZE}
+use Rattle.sectors.specs.declared.reading.SectorNumber.{SectorNumber}
+use Rattle.sectors.specs.declared.reading.SectorNumber.TheVariants.{Zero, One}
+use Rattle.sectors.specs.Sector.{readings}
+use Rattle.slot_records.specs.Naming.{active_naming, active_pending}
+use Rattle.node.specs.declared.Settings.{Settings}
+use Rattle.node.specs.declared.Node.{Node}
+use Rattle.node.specs.declared.refusal.Refusal.{Refusal}
+use Rattle.node.specs.declared.refusal.Refusal.TheVariants.{NoSuchSlot, NotNamed, ActivePending}
+use Rattle.node.specs.Node.{node_of}
+use Rattle.node.specs.Refusal.{◌>>=◌, ◌>>◌, refuse_if}
+use Rattle.boot_choice.specs.Choice.{slots_of}
 
--- 4: the slot is not below n
-abbrev pub not_below : Slot → Listing → Bool
-not_below s listing = not (ltb s.0 listing.slots)
+-- 4: a slot that is not below n
+unfoldable pub slot_test : ℕ → Slot → Result (Unit {0}) Refusal
+slot_test n slot = refuse_if (not (nat_lt slot.0 n)) NoSuchSlot
 
--- of what the tests before it left
-unfoldable pub slot_test : Slot → Checked → Checked
-slot_test s earlier = refuse_if (not_below s) 4 earlier
+-- 1 to 4
+unfoldable pub node_with : List ℕ → List ℕ → ℕ → Settings → Slot → Result Node Refusal
+node_with words flash size settings slot = do
+  node ← node_of words flash size settings
+  slot_test (slots_of node) slot
+  Ok node
 
--- 4 of a running app: factory has no slot
-abbrev pub running_test : App → Checked → Checked
-running_test Factory earlier = earlier
-running_test (OtaSlot s) earlier = slot_test s earlier
+-- 8: no active record names the running slot; else the sector of that record
+abbrev pub running_sector : Node → List Reading → Slot → Result SectorNumber Refusal
+running_sector node readings running = ok_or (active_naming (slots_of node) running readings) NotNamed
 
--- 1 to 4, of the calls with settings and a slot
-abbrev pub accepted_slot : List ℕ → ℕ → ℕ → Settings → Slot → Checked
-accepted_slot list capacity size settings s = slot_test s (accepted list capacity size settings)
+-- 11: with rollback on, an active record that is pending
+unfoldable pub pending_test : Settings → List Reading → Result (Unit {0}) Refusal
+pending_test settings readings = refuse_if (settings.rollback && active_pending readings) ActivePending
 
--- 5, with the image's own refusal, then 6
-abbrev pub held : Settings → ImageChecked → Examined
-held settings (ImageRefused image) = Unfit (image_refusal settings image)
-held settings (ImageAccepted facts) = cond (too_old settings facts.version) (Unfit (refusal settings 6)) (Fit facts)
+-- ---- the two sectors
 
--- 5 and 6, of the app of a slot
-unfoldable pub examined : List ℕ → List ℕ → Settings → Slot → Examined
-examined list flash settings s = held settings (check (image list flash (OtaSlot s)) settings.board).reply
+-- what the two sectors of otadata read as
+abbrev pub readings_in : List ℕ → List Reading
+readings_in otadata = readings (take SECTOR_SIZE otadata) (drop SECTOR_SIZE otadata)
 
--- 11: the active record is pending, with rollback on
-unfoldable pub unconfirmed : Settings → List Reading → Bool
-unconfirmed settings rs = settings.rollback && active_pending rs
-
--- ---- the tests of set-boot and of the marks, each before the rest of the call; a refusal, by `refuse`, changes nothing
-
--- 1 to 4, then the rest, with the number of slots
-abbrev pub after_tests : {Reply : Type 0} → (ℕ → Answered Reply) → List ℕ → Checked → (ℕ → Answers-as-Outcome Reply) → Answers-as-Outcome Reply
-after_tests refuse o (NotAccepted number) rest = outcome (refuse number) o
-after_tests refuse o (Accepted listing) rest = rest listing.slots
-
--- 5 and 6, then the rest, with the facts of the image
-abbrev pub after_image : List ℕ → Examined → (Facts → Outcome) → Outcome
-after_image o (Unfit why) rest = outcome (refused_by why) o
-after_image o (Fit facts) rest = rest facts
-
--- 8, then the rest, with the sector of the record that names the slot
-abbrev pub after_naming : {Reply : Type 0} → (ℕ → Answered Reply) → List ℕ → Holder → (ℕ → Answers-as-Outcome Reply) → Answers-as-Outcome Reply
-after_naming refuse o None rest = outcome (refuse 8) o
-after_naming refuse o (Sector k) rest = rest k
+-- sector k, where sector j is changed
+abbrev pub changed_at : (k j : SectorNumber) → (List ℕ → List ℕ) → List ℕ → List ℕ
+changed_at Zero Zero change sector = change sector
+changed_at One One change sector = change sector
+changed_at _ _ change sector = sector

@@ -1,351 +1,412 @@
--- The laws of set-boot and of the marks: each stage of a call either refuses and keeps everything, or leaves it to the next.
--- Assumes nothing.
-use Prim.Native.Nat.{ℕ}
-use mathlib.Core.Path.{◌≡◌, ◌∙◌, refl, sym, ap₂, subst}
-use mathlib.Core.Bool.{Bool, true, false, cond, ◌&&◌}
-use mathlib.Core.List.{List}
-use native.Mathlib.Omega.{arith}
-use lib.Dec.{eqb}
-use lib.ListN.{length, get_or}
-use borrow.Author.Tests.{eq-eqb}
-use Rattle.otadata.specs.Answers.{Answered, Outcome as Answers-as-Outcome, outcome}
-use Rattle.otadata.specs.declared.Slot.{Slot}
-use Rattle.otadata.specs.declared.Sequence.{Sequence}
-use Rattle.otadata.specs.declared.State.{State}
-use Rattle.otadata.specs.declared.State.TheVariants.{Pending, Invalid}
-use Rattle.otadata.specs.declared.Verdict.TheVariants.{Good}
-use Rattle.otadata.specs.Records.{state_word, no_reading}
-use Rattle.otadata.proofs.Booleans.{true_is_not_false}
-use Rattle.sectors.specs.declared.Holder.{Holder}
-use Rattle.sectors.specs.declared.Holder.TheVariants.{None, Sector}
-use Rattle.partitions.specs.declared.Listing.{Listing}
-use Rattle.partitions.specs.declared.Checked.{Checked}
-use Rattle.partitions.specs.declared.Checked.TheVariants.{Refused as NotAccepted, Accepted}
-use Rattle.partitions.specs.declared.App.TheVariants.{OtaSlot}
-use Rattle.partitions.specs.PartitionList.{slot_count}
+-- What set-boot leaves names the slot, and the next boot starts it; what mark-invalid leaves starts another app.
+use Rattle.std.proofs.Common.{◌≡◌, ℕ, ◌<◌, ◌==◌, ◌&&◌, Bool, true, false, is_some, is_none, if◌then◌else◌, List, ◌++◌, length, take, drop, take-append-drop, Option, Some, None, option_and_then, Result, Ok, inl, inr, refl, sym, ap, ap₂, subst, ◌∙◌, eqb-true}
+use Rattle.std.proofs.lemmas.List.{drop_at}
+use Rattle.otadata.specs.declared.records.Record.{Record}
+use Rattle.otadata.specs.declared.records.Sequence.{Sequence}
+use Rattle.otadata.specs.declared.records.Slot.{Slot}
+use Rattle.otadata.specs.declared.states.State.{State}
+use Rattle.otadata.specs.declared.states.State.TheVariants.{New, Pending, Valid, Invalid, Aborted, Undefined}
+use Rattle.otadata.specs.State.{word_of}
+use Rattle.otadata.specs.Record.{Reading, slot_of, is_sequence}
+use Rattle.sectors.specs.declared.reading.SectorNumber.{SectorNumber}
+use Rattle.sectors.specs.declared.reading.SectorNumber.TheVariants.{Zero, One}
+use Rattle.sectors.specs.Sector.{other_than, read_sector, readings, usable_sequence, active}
+use Rattle.sectors.specs.Otadata.{readings_of}
+use Rattle.sectors.specs.Rewrite.{restated}
+use Rattle.sectors.proofs.Restating.{restated_reads, length-restated}
+use Rattle.partitions.specs.declared.list.App.TheVariants.{OtaSlot}
 use Rattle.app_image.specs.declared.Facts.{Facts}
-use Rattle.app_image.specs.declared.Checked.{Checked as ImageChecked}
-use Rattle.app_image.specs.declared.Checked.TheVariants.{Refused as ImageRefused, Accepted as ImageAccepted}
-use Rattle.app_image.specs.Check.{check}
-use Rattle.boot_choice.specs.declared.Settings.{Settings}
-use Rattle.boot_choice.specs.declared.Passing.TheVariants.{Yes}
-use Rattle.boot_choice.specs.Choice.{image, too_old, passing}
-use Rattle.boot.specs.declared.Start.{Start}
-use Rattle.boot.specs.declared.Refusal.{Refusal as BootRefusal}
-use Rattle.boot.specs.declared.Reply.{Reply as BootReply}
-use Rattle.boot.specs.declared.Reply.TheVariants.{Refused as BootRefused, Starts}
-use Rattle.boot.specs.Boot.{boot, Accepts}
-use Rattle.sectors.specs.Sectors.{active, readings_of, with_state}
-use Rattle.boot_laws.proofs.Laws.{of_image, acceptance_law}
-use Rattle.boot_laws.specs.Laws.{AcceptanceLaw}
+use Rattle.app_image.specs.Laws.{AcceptedFits, AcceptedWithin}
+use Rattle.app_image.proofs.Acceptance.{accepted_fits, accepted_within}
+use Rattle.node.specs.declared.Settings.{Settings}
+use Rattle.node.specs.declared.Node.{Node}
+use Rattle.node.specs.declared.refusal.Refusal.{Refusal}
+use Rattle.node.specs.declared.refusal.Refusal.TheVariants.{NoFallback}
+use Rattle.node.specs.Node.{node_of, admitted, passing}
+use Rattle.node.specs.Refusal.{◌>>◌, refuse_if}
+use Rattle.boot_choice.specs.declared.Choice.{Choice}
+use Rattle.boot_choice.specs.Choice.{slots_of, choice}
+use Rattle.boot.specs.Boot.{settled, start_of, reply_by}
+use Rattle.boot_laws.specs.Laws.{sector, accepted, reply as boot_reply, OfImage}
+use Rattle.boot_laws.proofs.Choices.{reading_at}
+use Rattle.boot_laws.proofs.Boots.{both_sizes, first_sector, second_sector, first_size, second_size, second_is, accepted_is, after_marks, reply_accepted}
 use Rattle.slot_records.specs.declared.Placement.{Placement}
-use Rattle.slot_records.specs.declared.Placement.TheVariants.{Nowhere, At}
-use Rattle.slot_records.specs.Naming.{active_naming, active_pending}
-use Rattle.slot_records.specs.Placing.{placement}
-use Rattle.slot_records.proofs.Named.{naming_below_two}
-use Rattle.update.specs.declared.Refusal.{Refusal}
+use Rattle.slot_records.specs.Naming.{names, active_at, active_naming, active_pending}
+use Rattle.slot_records.specs.Placing.{placement, Placed, PlacementLaw}
+use Rattle.slot_records.proofs.Placed.{placement_law}
 use Rattle.update.specs.declared.Completion.{Completion}
-use Rattle.update.specs.declared.Reply.TheVariants.{Refused, Done}
-use Rattle.update.specs.declared.MarkedInvalid.TheVariants.{Refused as NotMarked, Done as Marked}
-use Rattle.update.specs.declared.Examined.{Examined}
-use Rattle.update.specs.declared.Examined.TheVariants.{Unfit, Fit}
-use Rattle.update.specs.Replies.{view, invalid_view, refused_by, refusal, image_refusal, refused, done, Outcome, not_marked, marked_invalid, InvalidOutcome}
-use Rattle.update.specs.Tests.{accepted_slot, held, examined, unconfirmed, after_tests, after_image, after_naming}
-use Rattle.update.specs.SetBoot.{placed_at, unless_named, pointed, set_boot}
-use Rattle.update.specs.Marks.{mark_valid, chooses_nothing, mark_invalid}
-use Rattle.update.proofs.MarkLaws.{otadata_size, boot-accepts}
-use Rattle.update_laws.specs.Laws.{RefusalKeeps, RefusalLaw, Viewed, ViewLaw, RegisterLaw, ImageLaw, SetsBoot, SetBootLaw, NextBootLaw, FallbackLaw}
-use Rattle.update_laws.proofs.Setting.{fit_passes}
-use Rattle.update_laws.proofs.Pointing.{listed, written_size, writes, not_pending as written-not-pending, points_already, held_at, Confirmed, starts_slot}
-use Rattle.sectors.proofs.TwoSectors.{with_state_size}
+use Rattle.update.specs.Tests.{node_with, running_sector, readings_in, changed_at}
+use Rattle.update.specs.SetBoot.{new_record, overwritten, if_placed, new_placement, written_at}
+use Rattle.update.specs.Invalid.{settled_reading, readings_without, invalidation, reply_to as invalid_reply_to, left_at as invalid_left_at, mark_invalid_reply, mark_invalid_bytes}
+use Rattle.update_laws.specs.Laws.{Given, set_boot, mark_invalid, boot_on, slots_in, SetsBoot, ImageLaw, SetBootLaw, NextBootLaw, FallbackLaw, without, KeepsLastApp, LastAppLaw}
+use Rattle.update_laws.proofs.Nodes.{passed, slots_are, image_admitted, admitted_passes}
+use Rattle.update_laws.proofs.Done.{with_slot, SetDone, set_done, valid_done, invalid_done}
+use Rattle.update_laws.proofs.Activity.{is_highest, of_active}
+use Rattle.update_laws.proofs.Restating.{settled_reads, length-overwritten, overwritten_reads}
+use Rattle.update_laws.proofs.Pointing.{reads_sector, starts_active, new_usable, new_not_pending, below_by}
 
--- ---- how a call ends
+-- ---- the two sectors
 
--- refused, with otadata as lent and the register as given, or done, with what is claimed of the register, the image's facts and otadata
-data Ends (o : List ℕ) (settings : Settings) (Claim : ℕ → Facts → List ℕ → Type 0) : Outcome → Type 0 where
-  refuses : {r : Refusal} → r.register ≡ settings.efuse → Ends o settings Claim (outcome (refused_by r) o)
-  completes : {register : ℕ} {facts : Facts} {left : List ℕ} → Claim register facts left → Ends o settings Claim (outcome (done register facts) left)
+pub same_readings : (otadata : List ℕ) → length otadata ≡ 8192 → readings_in otadata ≡ readings_of otadata
+same_readings otadata size = ap (λ (s : List ℕ). readings (take 4096 otadata) s) (sym (second_is otadata size))
 
-refuses_with : {o : List ℕ} {settings : Settings} {Claim : ℕ → Facts → List ℕ → Type 0} (number : ℕ) → Ends o settings Claim (outcome (refused settings number) o)
-refuses_with number = refuses refl
+-- one sector is changed, and keeps its size
+module _ (change : List ℕ → List ℕ) (keeps : (s : List ℕ) → length (change s) ≡ length s) where
+  size_at : (k j : SectorNumber) (s : List ℕ) → length (changed_at k j change s) ≡ length s
+  size_at Zero Zero s = keeps s
+  size_at Zero One s = refl
+  size_at One Zero s = refl
+  size_at One One s = keeps s
 
--- the same of mark-invalid, which gives the register as given
-data EndsInvalid (o : List ℕ) (settings : Settings) (Claim : List ℕ → Type 0) : InvalidOutcome → Type 0 where
-  refuses_mark : (number : ℕ) → EndsInvalid o settings Claim (outcome (not_marked settings number) o)
-  marks : {left : List ℕ} → Claim left → EndsInvalid o settings Claim (outcome (marked_invalid settings) left)
+  changes_own : (j : SectorNumber) (s : List ℕ) → changed_at j j change s ≡ change s
+  changes_own Zero s = refl
+  changes_own One s = refl
 
-keeps : {o : List ℕ} {settings : Settings} {Claim : ℕ → Facts → List ℕ → Type 0} {out : Outcome} → Ends o settings Claim out → RefusalKeeps Refused o settings out
-keeps {settings = settings} (refuses {r = r} given) why e =
-    let same : r ≡ why = cc in
-    (refl, subst (λ (x : Refusal). x.register ≡ settings.efuse) same given)
-keeps (completes claim) why e = absurd (let z : ◌≡◌ {A = ℕ} 0 1 = cc in omega arith)
+  keeps_other : (j : SectorNumber) (s : List ℕ) → changed_at (other_than j) j change s ≡ s
+  keeps_other Zero s = refl
+  keeps_other One s = refl
 
-keeps_mark : {o : List ℕ} {settings : Settings} {Claim : List ℕ → Type 0} {out : InvalidOutcome} → EndsInvalid o settings Claim out
-    → RefusalKeeps NotMarked o settings out
-keeps_mark {settings = settings} (refuses_mark number) why e =
-    let same : refusal settings number ≡ why = cc in
-    (refl, subst (λ (x : Refusal). x.register ≡ settings.efuse) same refl)
-keeps_mark (marks claim) why e = absurd (let z : ◌≡◌ {A = ℕ} 0 1 = cc in omega arith)
+  module _ (j : SectorNumber) (otadata : List ℕ) (size : length otadata ≡ 8192) where
+    abbrev pub first_part : List ℕ
+    first_part = changed_at Zero j change (take 4096 otadata)
 
--- ---- tests 5 and 6
+    abbrev pub second_part : List ℕ
+    second_part = changed_at One j change (drop 4096 otadata)
 
-module _ (settings : Settings) where
-  unfit_register : (r why : Refusal) → r.register ≡ settings.efuse → Unfit r ≡ Unfit why → why.register ≡ settings.efuse
-  unfit_register r why given e =
-      let same : r ≡ why = cc in
-      subst (λ (x : Refusal). x.register ≡ settings.efuse) same given
+    pub first_part_size : length first_part ≡ 4096
+    first_part_size = size_at Zero j (take 4096 otadata) ∙ first_size otadata size
 
-  old_register : (b : Bool) (facts : Facts) (why : Refusal) → cond b (Unfit (refusal settings 6)) (Fit facts) ≡ Unfit why → why.register ≡ settings.efuse
-  old_register true facts why e = unfit_register (refusal settings 6) why refl e
-  old_register false facts why e = absurd (let z : ◌≡◌ {A = ℕ} 0 1 = cc in omega arith)
+    pub second_part_size : length second_part ≡ 4096
+    second_part_size = size_at One j (drop 4096 otadata) ∙ second_size otadata size
 
-  held_register : (c : ImageChecked) (why : Refusal) → held settings c ≡ Unfit why → why.register ≡ settings.efuse
-  held_register (ImageRefused i) why e = unfit_register (image_refusal settings i) why refl e
-  held_register (ImageAccepted facts) why e = old_register (too_old settings facts.version) facts why e
+    pub changed_size : length (first_part ++ second_part) ≡ 8192
+    changed_size = both_sizes first_part second_part first_part_size second_part_size
 
--- the register of a refusal of tests 5 and 6
-abbrev KeepsRegister : Settings → Examined → Type 0
-KeepsRegister settings t = (why : Refusal) → t ≡ Unfit why → why.register ≡ settings.efuse
+    changed_sector : (k : SectorNumber) → sector k (first_part ++ second_part) ≡ changed_at k j change (sector k otadata)
+    changed_sector Zero = first_sector first_part second_part first_part_size second_part_size
+    changed_sector One = second_sector first_part second_part first_part_size second_part_size ∙ ap (changed_at One j change) (sym (second_is otadata size))
 
-examined_register : (list flash : List ℕ) (settings : Settings) (s : Slot) → KeepsRegister settings (examined list flash settings s)
-unfolding examined
-examined_register list flash settings s = held_register settings (check (image list flash (OtaSlot s)) settings.board).reply
+    pub own_changed : sector j (first_part ++ second_part) ≡ change (sector j otadata)
+    own_changed = changed_sector j ∙ changes_own j (sector j otadata)
 
--- ---- a test, then the rest of the call: what holds of its refusals and of the rest holds of both together
+    pub other_kept : sector (other_than j) (first_part ++ second_part) ≡ sector (other_than j) otadata
+    other_kept = changed_sector (other_than j) ∙ keeps_other j (sector (other_than j) otadata)
 
-module _ {Reply : Type 0} (P : Answers-as-Outcome Reply → Type 0) {refuse : ℕ → Answered Reply} {o : List ℕ}
-    (refusals : (number : ℕ) → P (outcome (refuse number) o)) where
-  tests_end : (c : Checked) (rest : ℕ → Answers-as-Outcome Reply) → ((listing : Listing) → c ≡ Accepted listing → P (rest listing.slots))
-      → P (after_tests refuse o c rest)
-  tests_end (NotAccepted number) rest ends = refusals number
-  tests_end (Accepted listing) rest ends = ends listing refl
+sector_size : (k : SectorNumber) (otadata : List ℕ) → length otadata ≡ 8192 → length (sector k otadata) ≡ 4096
+sector_size Zero otadata size = first_size otadata size
+sector_size One otadata size = ap length (second_is otadata size) ∙ second_size otadata size
 
-  naming_ends : (h : Holder) (rest : ℕ → Answers-as-Outcome Reply) → ((k : ℕ) → h ≡ Sector k → P (rest k)) → P (after_naming refuse o h rest)
-  naming_ends None rest ends = refusals 8
-  naming_ends (Sector k) rest ends = ends k refl
+-- ---- a new record was written
 
-  under : (b : Bool) (number : ℕ) {rest : Answers-as-Outcome Reply} → (b ≡ false → P rest) → P (cond b (outcome (refuse number) o) rest)
-  under true number ends = refusals number
-  under false number ends = ends refl
+pub placed_by : (b : Bool) (p : Option Placement) (placed : Placement) → (if b then Ok None else if_placed p) ≡ Ok (Some placed) → p ≡ Some placed
+placed_by true p placed is = cc
+placed_by false None placed is = cc
+placed_by false (Some found) placed is = cc
 
-image_ends : {o : List ℕ} {settings : Settings} {Claim : ℕ → Facts → List ℕ → Type 0} (t : Examined) → KeepsRegister settings t → (rest : Facts → Outcome)
-    → ((facts : Facts) → t ≡ Fit facts → Ends o settings Claim (rest facts)) → Ends o settings Claim (after_image o t rest)
-image_ends (Unfit why) given rest ends = refuses (given why refl)
-image_ends (Fit facts) given rest ends = ends facts refl
+named_by : (b : Bool) (p : Option Placement) → (if b then Ok None else if_placed p) ≡ Ok None → b ≡ true
+named_by true p is = refl
+named_by false None is = cc
+named_by false (Some found) is = cc
+
+-- the sector with the record, in otadata of its size
+module _ (settings : Settings) (otadata : List ℕ) (size : length otadata ≡ 8192) (placed : Placement) where
+  abbrev pub left : List ℕ
+  left = written_at settings Zero (Some placed) (take 4096 otadata) ++ written_at settings One (Some placed) (drop 4096 otadata)
+
+  abbrev write : List ℕ → List ℕ
+  write = overwritten settings placed.sequence
+
+  pub left_size : length left ≡ 8192
+  left_size = changed_size write (length-overwritten settings placed.sequence) placed.sector otadata size
+
+  pub left_other : sector (other_than placed.sector) left ≡ sector (other_than placed.sector) otadata
+  left_other = other_kept write (length-overwritten settings placed.sequence) placed.sector otadata size
+
+  pub left_reads : is_sequence placed.sequence.0 ≡ true → read_sector (sector placed.sector left) ≡ Ok (new_record settings placed.sequence)
+  left_reads right =
+      ap read_sector (own_changed write (length-overwritten settings placed.sequence) placed.sector otadata size)
+      ∙ overwritten_reads settings placed.sequence (sector placed.sector otadata) (sector_size placed.sector otadata size) right
+
+  module _ (n : ℕ) (slot : Slot) (is : placement n slot (readings_of otadata) ≡ Some placed) where
+    pub law : Placed n slot (readings_of otadata) placed
+    unfolding PlacementLaw
+    law = placement_law n slot (readings_of otadata) placed is
+
+    -- the other record's sequence is lower, where it counts
+    other_below : (p : Sequence) → usable_sequence (read_sector (sector (other_than placed.sector) otadata)) ≡ Some p → p.0 < placed.sequence.0
+    other_below p usable =
+        below_by (read_sector (sector Zero otadata)) (read_sector (sector One otadata)) placed.sequence (active_at (readings_of otadata)) refl law.smallest.above p
+        (ap usable_sequence (ap (λ (k : SectorNumber). reading_at (read_sector (sector Zero otadata)) (read_sector (sector One otadata)) (other_than k)) (sym law.sector)
+        ∙ reads_sector otadata (other_than placed.sector))
+        ∙ usable)
+
+    left_active : active (readings_of left) ≡ Some placed.sector
+    left_active =
+        is_highest placed.sequence (read_sector (sector Zero left)) (read_sector (sector One left)) placed.sector
+        (ap usable_sequence (reads_sector left placed.sector ∙ left_reads law.sequence) ∙ new_usable settings placed.sequence)
+        (λ p usable. other_below p (ap usable_sequence (ap read_sector (sym left_other) ∙ sym (reads_sector left (other_than placed.sector))) ∙ usable))
 
 -- ---- set-boot
 
--- done, with the register as given, where the active record names the slot, and the next boot will start it
-record Sets (list flash o : List ℕ) (settings : Settings) (s : Slot) (register : ℕ) (facts : Facts) (left : List ℕ) : Type 0 where
-  register_given : register ≡ settings.efuse
+-- what is left names the slot, and its active record is not pending while rollback is on
+record Pointed (g : Given) (left : List ℕ) : Type 0 where
   size : length left ≡ 8192
-  sets : SetsBoot list o left settings s
-  confirmed : Confirmed list flash settings s sets.points.state facts
+  sets : SetsBoot g left
+  not_pending : g.settings.rollback ≡ true → sets.points.held.state ≡ Pending → ⊥
 
--- test 11 passed
-not_pending : (rollback : Bool) (state : State) → (rollback && eqb (state_word state) 1) ≡ false → rollback ≡ true → state ≡ Pending → ⊥
-not_pending rollback state passed on pending = true_is_not_false _ (simp (on, pending)) passed
+-- test 11
+not_pended : (rollback : Bool) (state : State) → (rollback && (word_of state == word_of Pending)) ≡ false → rollback ≡ true → state ≡ Pending → ⊥
+not_pended false state is on e = cc
+not_pended true New is on e = cc
+not_pended true Pending is on e = cc
+not_pended true Valid is on e = cc
+not_pended true Invalid is on e = cc
+not_pended true Aborted is on e = cc
+not_pended true Undefined is on e = cc
 
-module _ (list flash o : List ℕ) (settings : Settings) (s : Slot) (size : length o ≡ 8192) (accepts : Accepts list (length flash) 8192 settings)
-    (facts : Facts) (fit : examined list flash settings s ≡ Fit facts) (passed : unconfirmed settings (readings_of o) ≡ false) where
-  abbrev EndsSet : Outcome → Type 0
-  EndsSet = Ends o settings (Sets list flash o settings s)
+-- the record that names the slot already
+naming_by : (n : ℕ) (slot : Slot) (o : Option (SectorNumber × Record))
+    → is_some (option_and_then (λ held. if names n slot held.1 then Some held.0 else None) o) ≡ true
+    → (held : SectorNumber × Record) × ((o ≡ Some held) × (names n slot held.1 ≡ true))
+naming_by n slot None is = absurd cc
+naming_by n slot (Some held) is = (held, (refl, by (names n slot held.1) is))
+  where
+    by : (b : Bool) → is_some (if b then Some held.0 else None) ≡ true → b ≡ true
+    by true is = refl
+    by false is = cc
 
-  confirmed_in : (state : State) → (settings.rollback ≡ true → state ≡ Pending → ⊥) → Confirmed list flash settings s state facts
-  confirmed_in state not = record { accepts = accepts; not_pending = not; passes = fit_passes list flash settings s facts fit }
+module _ (g : Given) (done : Completion) (d : SetDone g done) where
+  abbrev o : List ℕ
+  o = g.otadata
 
-  -- the record that was active is not pending
-  active_confirmed : (k : ℕ) (q : Sequence) (state : State) → active (readings_of o) ≡ Sector k → (get_or (readings_of o) k no_reading).verdict ≡ Good q state
-      → settings.rollback ≡ true → state ≡ Pending → ⊥
-  unfolding unconfirmed active_pending
-  active_confirmed k q state is holds = not_pending settings.rollback state (simp (is, holds) at passed)
+  abbrev n : ℕ
+  n = slots_of d.node
 
-  placed_ends : (p : Placement) → placement (slot_count list) s (readings_of o) ≡ p → EndsSet (placed_at settings facts o p)
-  placed_ends Nowhere e = refuses refl
-  placed_ends (At k q) e =
-      completes
-      (record {
-        register_given = refl;
-        size = written_size list o settings s size k q e;
-        sets = writes list o settings s size k q e;
-        confirmed = confirmed_in (writes list o settings s size k q e).points.state (λ (on : settings.rollback ≡ true). written-not-pending list o settings s size k q e);
-      })
+  of_boot : accepted (boot_on g o) ≡ Ok d.node
+  of_boot = d.is_node
 
-  named_ends : (h : Holder) → active_naming (slot_count list) s (readings_of o) ≡ h → {rest : Outcome} → EndsSet rest → EndsSet (unless_named settings facts o h rest)
-  named_ends None e rest = rest
-  named_ends (Sector k) e rest =
-      let sets = points_already list o settings s k e in
-      completes
-      (record {
-        register_given = refl;
+  size : length o ≡ 8192
+  size = (accepted_is (boot_on g o) d.node of_boot).size
+
+  same_settings : d.node.settings ≡ g.settings
+  same_settings = (accepted_is (boot_on g o) d.node of_boot).same_settings
+
+  slots : n ≡ slots_in g.words
+  slots = slots_are g.words g.flash (length o) g.settings d.node d.is_node
+
+  abbrev write_of : Settings → Option Placement → List ℕ
+  write_of settings w = written_at settings Zero w (take 4096 o) ++ written_at settings One w (drop 4096 o)
+
+  is_left : (w : Option Placement) → d.write ≡ w → (set_boot g).otadata ≡ write_of g.settings w
+  is_left w e = d.left ∙ ap₂ write_of same_settings e
+
+  decided : (w : Option Placement) → d.write ≡ w → new_placement n g.slot (readings_of o) ≡ Ok w
+  decided w e = ap (new_placement n g.slot) (sym (same_readings o size)) ∙ d.is_write ∙ ap (λ (x : Option Placement). Ok x) e
+
+  wrote_by : (placed : Placement) → placement n g.slot (readings_of o) ≡ Some placed → Pointed g (left g.settings o size placed)
+  wrote_by placed is =
+      let by_law = law g.settings o size placed n g.slot is in
+      record {
+        size = left_size g.settings o size placed;
+        sets = record {
+          at = placed.sector;
+          sequence = placed.sequence;
+          points = record {
+            held = new_record g.settings placed.sequence;
+            is_active = left_active g.settings o size placed n g.slot is;
+            holds = left_reads g.settings o size placed by_law.sequence;
+            of_sequence = refl;
+            names = ap (λ (m : ℕ). slot_of m placed.sequence) (sym slots) ∙ by_law.smallest.names;
+          };
+          wrote = inr (record {
+            placed = ap (λ (m : ℕ). placement m g.slot (readings_of o)) (sym slots) ∙ is;
+            reads = left_reads g.settings o size placed by_law.sequence;
+            other = left_other g.settings o size placed;
+          });
+        };
+        not_pending = λ on. new_not_pending g.settings placed.sequence;
+      }
+
+  named : is_some (active_naming n g.slot (readings_of o)) ≡ true → Pointed g o
+  unfolding active_naming active_pending
+  named is =
+      let (held, by_held) = naming_by n g.slot (active_at (readings_of o)) is in
+      let is_active = of_active (read_sector (sector Zero o)) (read_sector (sector One o)) held by_held.0 in
+      let passed_11 = ap (λ readings. d.node.settings.rollback && active_pending readings) (sym (same_readings o size)) ∙ d.not_pending in
+      record {
         size = size;
-        sets = sets;
-        confirmed = confirmed_in sets.points.state (active_confirmed sets.sector sets.sequence sets.points.state sets.points.is_active (held_at list o s sets.points));
-      })
+        sets = record {
+          at = held.0;
+          sequence = held.1.sequence;
+          points = record {
+            held = held.1;
+            is_active = is_active.0;
+            holds = sym (reads_sector o held.0) ∙ is_active.1;
+            of_sequence = refl;
+            names = ap (λ (m : ℕ). slot_of m held.1.sequence) (sym slots)
+                ∙ ap (λ (i : ℕ). record { 0 = i }) (eqb-true (slot_of n held.1.sequence).0 g.slot.0 by_held.1);
+          };
+          wrote = inl refl;
+        };
+        not_pending = λ on. not_pended d.node.settings.rollback held.1.state (rw by_held.0 at passed_11) (ap (λ (s : Settings). s.rollback) same_settings ∙ on);
+      }
 
-module _ (list flash o : List ℕ) (settings : Settings) (s : Slot) where
-  abbrev EndsSetBoot : Outcome → Type 0
-  EndsSetBoot = Ends o settings (Sets list flash o settings s)
+  pointed_by : (w : Option Placement) → d.write ≡ w → Pointed g (set_boot g).otadata
+  unfolding new_placement
+  pointed_by None e =
+      subst (Pointed g) (sym (is_left None e ∙ take-append-drop 4096 o))
+      (named (named_by (is_some (active_naming n g.slot (readings_of o))) (placement n g.slot (readings_of o)) (decided None e)))
+  pointed_by (Some placed) e =
+      subst (Pointed g) (sym (is_left (Some placed) e))
+      (wrote_by placed (placed_by (is_some (active_naming n g.slot (readings_of o))) (placement n g.slot (readings_of o)) placed (decided (Some placed) e)))
 
-  set_ends : EndsSetBoot (set_boot list flash o settings s)
-  unfolding set_boot pointed
-  set_ends =
-      tests_end EndsSetBoot refuses_with (accepted_slot list (length flash) (length o) settings s) _
-      (λ (listing : Listing) (is : accepted_slot list (length flash) (length o) settings s ≡ Accepted listing).
-      image_ends (examined list flash settings s) (examined_register list flash settings s) _
-      (λ (facts : Facts) (fit : examined list flash settings s ≡ Fit facts).
-      under EndsSetBoot refuses_with (unconfirmed settings (readings_of o)) 11
-      (λ (passed : unconfirmed settings (readings_of o) ≡ false).
-      subst (λ (n : ℕ). EndsSetBoot (unless_named settings facts o (active_naming n s (readings_of o)) (placed_at settings facts o (placement n s (readings_of o)))))
-      (sym (listed list flash o settings s listing is))
-      (named_ends list flash o settings s (otadata_size list flash o settings s _ refl listing is) (boot-accepts list flash o settings s _ refl listing is) facts fit passed
-      (active_naming (slot_count list) s (readings_of o)) refl
-      (placed_ends list flash o settings s (otadata_size list flash o settings s _ refl listing is) (boot-accepts list flash o settings s _ refl listing is) facts fit passed
-      (placement (slot_count list) s (readings_of o)) refl)))))
+  pointed : Pointed g (set_boot g).otadata
+  pointed = pointed_by d.write refl
 
--- ---- mark-valid
+  -- the next boot
+  next_boot : boot_reply (boot_on g (set_boot g).otadata)
+      ≡ Ok (record { app = OtaSlot g.slot; through = Some pointed.sets.at; register = g.settings.efuse; facts = done.facts })
+  next_boot =
+      let p = pointed.sets.points in
+      let boot = boot_on g (set_boot g).otadata in
+      let lent : accepted boot ≡ Ok d.node = ap (λ (m : ℕ). node_of g.words g.flash m g.settings) (pointed.size ∙ sym size) ∙ d.is_node in
+      let names : slot_of n p.held.sequence ≡ g.slot = ap₂ (λ (m : ℕ) (q : Sequence). slot_of m q) slots p.of_sequence ∙ p.names in
+      starts_active boot d.node lent pointed.sets.at p.held p.is_active p.holds pointed.not_pending done.facts
+      (ap (λ (s : Slot). passing d.node (OtaSlot s)) names ∙ admitted_passes d.node (OtaSlot g.slot) done.facts d.is_admitted)
+      ∙ ap (λ (s : Slot). Ok (record { app = OtaSlot s; through = Some pointed.sets.at; register = g.settings.efuse; facts = done.facts })) names
 
--- done, where the slot's app passes
-abbrev Marks : List ℕ → List ℕ → Settings → Slot → ℕ → Facts → List ℕ → Type 0
-Marks list flash settings s register facts left = passing list flash settings (OtaSlot s) ≡ Yes facts
+pub set_boot_law : SetBootLaw
+unfolding SetBootLaw
+set_boot_law g done is = (pointed g done (set_done g done is)).sets
 
-module _ (list flash o : List ℕ) (settings : Settings) (s : Slot) where
-  abbrev EndsValid : Outcome → Type 0
-  EndsValid = Ends o settings (Marks list flash settings s)
+pub next_boot_law : NextBootLaw
+unfolding NextBootLaw
+next_boot_law g done is = let d = set_done g done is in ((pointed g done d).sets, next_boot g done d)
 
-  valid_ends : EndsValid (mark_valid list flash o settings s)
-  unfolding mark_valid
-  valid_ends =
-      tests_end EndsValid refuses_with (accepted_slot list (length flash) (length o) settings s) _
-      (λ (listing : Listing) e.
-      naming_ends EndsValid refuses_with (active_naming listing.slots s (readings_of o)) _
-      (λ (k : ℕ) named.
-      image_ends (examined list flash settings s) (examined_register list flash settings s) _
-      (λ (facts : Facts) fit. completes (fit_passes list flash settings s facts fit))))
+-- ---- the image
 
--- ---- mark-invalid
-
--- done, where boot accepts what is left and does not choose nothing
-record LeavesApp (list flash : List ℕ) (settings : Settings) (left : List ℕ) : Type 0 where
-  chooses : chooses_nothing (boot list flash left settings).reply ≡ false
-  accepts : Accepts list (length flash) (length left) settings
-
-module _ (list flash o : List ℕ) (settings : Settings) (s : Slot) where
-  abbrev EndsMark : InvalidOutcome → Type 0
-  EndsMark = EndsInvalid o settings (LeavesApp list flash settings)
-
-  left_accepted : (listing : Listing) → accepted_slot list (length flash) (length o) settings s ≡ Accepted listing
-      → (k : ℕ) → active_naming listing.slots s (readings_of o) ≡ Sector k
-      → Accepts list (length flash) (length (with_state Invalid k o)) settings
-  left_accepted listing is k named =
-      let size = otadata_size list flash o settings s _ refl listing is in
-      let left = with_state_size Invalid k o (naming_below_two listing.slots s (readings_of o) k named) size in
-      subst (λ (n : ℕ). Accepts list (length flash) n settings) (sym left) (boot-accepts list flash o settings s _ refl listing is)
-
-  invalid_ends : EndsMark (mark_invalid list flash o settings s)
-  unfolding mark_invalid
-  invalid_ends =
-      tests_end EndsMark refuses_mark (accepted_slot list (length flash) (length o) settings s) _
-      (λ (listing : Listing) (accepted : accepted_slot list (length flash) (length o) settings s ≡ Accepted listing).
-      naming_ends EndsMark refuses_mark (active_naming listing.slots s (readings_of o)) _
-      (λ (k : ℕ) (named : active_naming listing.slots s (readings_of o) ≡ Sector k).
-      under EndsMark refuses_mark (chooses_nothing (boot list flash (with_state Invalid k o) settings).reply) 9
-      (λ (e : chooses_nothing (boot list flash (with_state Invalid k o) settings).reply ≡ false).
-      marks (record { chooses = e; accepts = left_accepted listing accepted k named }))))
-
--- ---- the laws
-
-pub refusal_law : RefusalLaw
-unfolding RefusalLaw
-refusal_law list flash o settings s =
+of_image : (g : Given) (node : Node) (facts : Facts) → accepted (boot_on g g.otadata) ≡ Ok node → admitted node (OtaSlot g.slot) ≡ Ok facts
+    → OfImage (boot_on g g.otadata) (OtaSlot g.slot) facts.length facts.entry
+unfolding AcceptedFits AcceptedWithin
+of_image g node facts is is_admitted =
+    let same = (accepted_is (boot_on g g.otadata) node is).same_settings in
+    let checked = rw same at (image_admitted node (OtaSlot g.slot) facts is_admitted) in
     record {
-      at_set_boot = keeps (set_ends list flash o settings s);
-      at_mark_valid = keeps (valid_ends list flash o settings s);
-      at_mark_invalid = keeps_mark (invalid_ends list flash o settings s);
-    }
-
--- a call that ends so has the number and the values of its reply
-ends_viewed : {o : List ℕ} {settings : Settings} {Claim : ℕ → Facts → List ℕ → Type 0} {out : Outcome} → Ends o settings Claim out → Viewed view out
-ends_viewed (refuses given) = refl
-ends_viewed (completes claim) = refl
-
-mark_viewed : {o : List ℕ} {settings : Settings} {Claim : List ℕ → Type 0} {out : InvalidOutcome} → EndsInvalid o settings Claim out → Viewed invalid_view out
-mark_viewed (refuses_mark number) = refl
-mark_viewed (marks claim) = refl
-
-pub view_law : ViewLaw
-unfolding ViewLaw
-view_law list flash o settings s =
-    record {
-      at_set_boot = ends_viewed (set_ends list flash o settings s);
-      at_mark_valid = ends_viewed (valid_ends list flash o settings s);
-      at_mark_invalid = mark_viewed (invalid_ends list flash o settings s);
-    }
-
--- what is claimed of a success, whose reply has the length and the entry address of the facts
-record Succeeds (Claim : ℕ → Facts → List ℕ → Type 0) (c : Completion) (left : List ℕ) : Type 0 where
-  facts : Facts
-  claim : Claim c.register facts left
-  same_length : c.length ≡ facts.length
-  same_entry : c.entry ≡ facts.entry
-
-claimed : {o : List ℕ} {settings : Settings} {Claim : ℕ → Facts → List ℕ → Type 0} {out : Outcome} → Ends o settings Claim out
-    → (c : Completion) → out.reply ≡ Done c → Succeeds Claim c out.otadata
-claimed {Claim = Claim} (completes {register = register} {facts = facts} {left = left} claim) c e =
-    let same : record { register = register; length = facts.length; entry = facts.entry } ≡ c = cc in
-    subst (λ (x : Completion). Succeeds Claim x left) same (record { facts = facts; claim = claim; same_length = refl; same_entry = refl })
-claimed (refuses given) c e = absurd (let z : ◌≡◌ {A = ℕ} 0 1 = cc in omega arith)
-
-mark_claimed : {o : List ℕ} {settings : Settings} {Claim : List ℕ → Type 0} {out : InvalidOutcome} → EndsInvalid o settings Claim out
-    → (register : ℕ) → out.reply ≡ Marked register → (register ≡ settings.efuse) × Claim out.otadata
-mark_claimed {settings = settings} (marks claim) register e = let same : settings.efuse ≡ register = cc in (sym same, claim)
-mark_claimed (refuses_mark number) register e = absurd (let z : ◌≡◌ {A = ℕ} 0 1 = cc in omega arith)
-
-pub register_law : RegisterLaw
-unfolding RegisterLaw
-register_law list flash o settings s =
-    record {
-      at_set_boot = λ (c : Completion) e. (claimed (set_ends list flash o settings s) c e).claim.register_given;
-      at_mark_invalid = λ (register : ℕ) e. (mark_claimed (invalid_ends list flash o settings s) register e).0;
+      node = node;
+      of_boot = is;
+      facts = facts;
+      is_accepted = checked;
+      fits = accepted_fits _ g.settings.board facts checked;
+      same_length = refl;
+      same_entry = refl;
+      within = accepted_within _ g.settings.board facts checked;
     }
 
 pub image_law : ImageLaw
 unfolding ImageLaw
-image_law list flash o settings s = (
-  λ (c : Completion) e.
-      let done = claimed (set_ends list flash o settings s) c e in
-      of_image list flash settings (OtaSlot s) done.facts done.claim.confirmed.passes c.length c.entry done.same_length done.same_entry,
-  λ (c : Completion) e.
-      let done = claimed (valid_ends list flash o settings s) c e in
-      of_image list flash settings (OtaSlot s) done.facts done.claim c.length c.entry done.same_length done.same_entry,
+image_law g = (
+  λ done is. let d = set_done g done is in of_image g d.node done.facts d.is_node d.is_admitted,
+  λ done is. let d = valid_done g done is in of_image g d.0 done.facts d.1.0 d.1.1,
 )
 
--- where boot accepts and does not choose nothing, it starts an app
-starts_by : (r : BootReply) → chooses_nothing r ≡ false → ((refusal : BootRefusal) → r ≡ BootRefused refusal → refusal.number ≡ 10)
-    → (start : Start) × (r ≡ Starts start)
-starts_by (BootRefused refusal) n ten = absurd (true_is_not_false _ (eq-eqb _ _ (ten refusal refl)) n)
-starts_by (Starts start) n ten = (start, refl)
+-- ---- mark-invalid
+
+found_by : (o : Option Choice) → is_none o ≡ false → (made : Choice) × (o ≡ Some made)
+found_by None is = absurd cc
+found_by (Some made) is = (made, refl)
+
+-- the readings by which mark-invalid looks for a fallback are those that boot then finds
+boot_finds : (settings : Settings) (first second : List ℕ) (k : SectorNumber)
+    → readings (settled settings (changed_at Zero k (restated Invalid) first)) (settled settings (changed_at One k (restated Invalid) second))
+    ≡ readings_without settings k (readings first second)
+unfolding readings_without
+boot_finds settings first second Zero =
+    let marked = settled_reads settings (restated Invalid first) ∙ ap (settled_reading settings) (restated_reads Invalid first) in
+    let other = settled_reads settings second in
+    cc
+boot_finds settings first second One =
+    let other = settled_reads settings first in
+    let marked = settled_reads settings (restated Invalid second) ∙ ap (settled_reading settings) (restated_reads Invalid second) in
+    cc
+
+-- boot on what mark-invalid leaves, where the record of sector k is invalid
+module _ (g : Given) (node : Node) (k : SectorNumber) (is_node : node_of g.words g.flash (length g.otadata) g.settings ≡ Ok node) where
+  lent_size : length g.otadata ≡ 8192
+  lent_size = (accepted_is (boot_on g g.otadata) node is_node).size
+
+  abbrev first_left : List ℕ
+  first_left = changed_at Zero k (restated Invalid) (take 4096 g.otadata)
+
+  abbrev second_left : List ℕ
+  second_left = changed_at One k (restated Invalid) (drop 4096 g.otadata)
+
+  first_left_size : length first_left ≡ 4096
+  first_left_size = first_part_size (restated Invalid) (length-restated Invalid) k g.otadata lent_size
+
+  second_left_size : length second_left ≡ 4096
+  second_left_size = second_part_size (restated Invalid) (length-restated Invalid) k g.otadata lent_size
+
+  -- it accepts the same node, and finds what the test looks at
+  accepts : accepted (boot_on g (without k g.otadata)) ≡ Ok node
+  accepts = ap (λ (m : ℕ). node_of g.words g.flash m g.settings) (both_sizes first_left second_left first_left_size second_left_size ∙ sym lent_size) ∙ is_node
+
+  abbrev found : List Reading
+  found = readings_without node.settings k (readings_in g.otadata)
+
+  finds : after_marks node (without k g.otadata) ≡ found
+  finds =
+      ap₂ (λ (a b : List ℕ). readings (settled node.settings a) (settled node.settings b))
+      (first_sector first_left second_left first_left_size second_left_size) (drop_at first_left second_left 4096 first_left_size)
+      ∙ boot_finds node.settings (take 4096 g.otadata) (drop 4096 g.otadata) k
+
+  boot_replies : boot_reply (boot_on g (without k g.otadata)) ≡ reply_by node.settings found (choice node found)
+  boot_replies =
+      reply_accepted (boot_on g (without k g.otadata)) node accepts
+      ∙ ap (λ (rs : List Reading). reply_by node.settings rs (choice node rs)) finds
+
+  boot_chooses : (made : Option Choice) → choice node found ≡ made → boot_reply (boot_on g (without k g.otadata)) ≡ reply_by node.settings found made
+  boot_chooses made is = boot_replies ∙ ap (reply_by node.settings found) is
+
+  -- the test
+  module _ (is_tested : node_with g.words g.flash (length g.otadata) g.settings g.slot ≡ Ok node)
+      (is_running : running_sector node (readings_in g.otadata) g.slot ≡ Ok k) where
+    abbrev by_test : Option Choice → Result SectorNumber Refusal
+    by_test made = refuse_if (is_none made) NoFallback >> Ok k
+
+    replies : (made : Option Choice) → choice node found ≡ made → (mark_invalid g).reply ≡ invalid_reply_to (by_test made)
+    unfolding mark_invalid_reply invalidation
+    replies made is = rw (is_tested, is_running, is) refl
+
+    leaves : (made : Option Choice) → choice node found ≡ made
+        → (mark_invalid g).otadata ≡ invalid_left_at Zero (by_test made) (take 4096 g.otadata) ++ invalid_left_at One (by_test made) (drop 4096 g.otadata)
+    unfolding mark_invalid_bytes invalidation
+    leaves made is = rw (is_tested, is_running, is) refl
+
+    keeps_last_app : (made : Option Choice) → choice node found ≡ made → KeepsLastApp g (without k g.otadata)
+    keeps_last_app None is =
+        record {
+          exactly = (λ refused. boot_chooses None is, λ nothing. replies None is);
+          outcome = inl (replies None is, leaves None is ∙ take-append-drop 4096 g.otadata);
+        }
+    keeps_last_app (Some made) is =
+        record {
+          exactly = (
+            λ refused. absurd (let z = sym (replies (Some made) is) ∙ refused in cc),
+            λ nothing. absurd (let z = sym (boot_chooses (Some made) is) ∙ nothing in cc),
+          );
+          outcome = inr (replies (Some made) is, leaves (Some made) is);
+        }
 
 pub fallback_law : FallbackLaw
-unfolding FallbackLaw AcceptanceLaw
-fallback_law list flash o settings s register e =
-    let leaves = (mark_claimed (invalid_ends list flash o settings s) register e).1 in
-    let left = (mark_invalid list flash o settings s).otadata in
-    starts_by (boot list flash left settings).reply leaves.chooses
-    ((acceptance_law list flash left settings).accepting leaves.accepts)
+unfolding FallbackLaw
+fallback_law g is =
+    let d = invalid_done g is in
+    let rs = found g d.node d.sector d.is_node in
+    let (made, is_made) = found_by (choice d.node rs) (passed (is_none (choice d.node rs)) NoFallback d.falls_back) in
+    (start_of d.node.settings rs made, ap (λ (o : List ℕ). boot_reply (boot_on g o)) d.left ∙ boot_chooses g d.node d.sector d.is_node (Some made) is_made)
 
-pub set_boot_law : SetBootLaw
-unfolding SetBootLaw
-set_boot_law list flash o settings s c e = (claimed (set_ends list flash o settings s) c e).claim.sets
-
-pub next_boot_law : NextBootLaw
-unfolding NextBootLaw
-next_boot_law list flash o settings s c e =
-    let done = claimed (set_ends list flash o settings s) c e in
-    let claim = done.claim in
-    let sets = claim.sets in (
-      sets,
-      starts_slot list flash (set_boot list flash o settings s).otadata settings s claim.size sets.sector sets.sequence sets.points done.facts claim.confirmed
-          ∙ ap₂ (λ (l a : ℕ). Starts (record { app = OtaSlot s; through = Sector sets.sector; register = settings.efuse; length = l; entry = a }))
-          (sym done.same_length) (sym done.same_entry),
-    )
+pub last_app_law : LastAppLaw
+unfolding LastAppLaw
+last_app_law g node k is_tested is_running =
+    let is_node = (with_slot g.words g.flash (length g.otadata) g.settings g.slot node is_tested).is_node in
+    keeps_last_app g node k is_node is_tested is_running (choice node (found g node k is_node)) refl

@@ -1,3 +1,5 @@
+pub mod Values
 pub mod Digests
+pub mod Calls
 pub mod Worked
-pub mod Witness
+pub mod Witnesses

@@ -1,7 +1,0 @@
--- `otadata::records::sequence_of` meets its contract.
--- Assumes nothing.
-use Rattle.otadata.proofs.Verdicts.{other_of}
-use Rattle.otadata.proofs.records.sequence_of.Goals as goal
-
-pub returns-in_default : goal.returns-in_default
-returns-in_default c = search other_of
