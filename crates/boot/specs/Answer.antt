@@ -11,7 +11,9 @@ use Rattle.partitions.specs.declared.list.App.TheVariants.{Factory as FactoryApp
 use Rattle.app_image.specs.declared.Facts.{Facts}
 use Rattle.node.specs.declared.Settings.{Settings}
 use Rattle.node.specs.declared.refusal.Refusal.{Refusal}
+use Rattle.node.specs.declared.refusal.Refused.{Refused}
 use Rattle.node.specs.Refusal.{number_of}
+use Rattle.node.specs.Refused.{number_of_refused, keeping_register}
 use Rattle.boot_choice.specs.declared.Choice.TheVariants.{Recorded, Factory, Found}
 use Rattle.boot.specs.declared.Start.{Start}
 use Rattle.boot.specs.Boot.{register_after, reply_by}
@@ -32,15 +34,21 @@ abbrev pub start_values : Start → List ℕ
 start_values start =
     app_values start.app ++ (sector_value start.through ∷ start.register ∷ start.facts.length ∷ start.facts.entry ∷ [])
 
--- a refusal names no app, no slot and no sector, returns the register as given, and has zero for length and entry
-abbrev pub answer_of : Settings → Result Start Refusal → Answer
-answer_of settings (Ok start) = record { number = 0; values = start_values start }
-answer_of settings (Err refusal) = record { number = number_of refusal; values = 0 ∷ 0 ∷ 2 ∷ settings.efuse ∷ 0 ∷ 0 ∷ [] }
+-- a refusal names no app, no slot and no sector, returns the register, and has zero for length and entry
+abbrev pub answer_to : Result Start Refused → Answer
+answer_to (Ok start) = record { number = 0; values = start_values start }
+answer_to (Err refused) = record { number = number_of_refused refused; values = 0 ∷ 0 ∷ 2 ∷ refused.register ∷ 0 ∷ 0 ∷ [] }
 
--- the register after a boot: a refusal leaves it as it was given
+abbrev pub answer_of : Settings → Result Start Refusal → Answer
+answer_of settings reply = answer_to (keeping_register settings reply)
+
+-- the register after a boot: a refusal returns it as it was given
+abbrev pub register_in : Result Start Refused → ℕ
+register_in (Ok start) = start.register
+register_in (Err refused) = refused.register
+
 abbrev pub register_of : Settings → Result Start Refusal → ℕ
-register_of settings (Ok start) = start.register
-register_of settings (Err refusal) = settings.efuse
+register_of settings reply = register_in (keeping_register settings reply)
 
 -- ---- the law
 

@@ -6,12 +6,13 @@ mod laws;
 ghost use Rattle.std.specs.Prelude.{◌≡◌};
 ghost use Rattle.otadata.specs.declared.states.State.TheVariants.{New, Pending};
 ghost use Rattle.sectors.specs.Sector.{read_sector, readings};
+ghost use Rattle.node.specs.Refused.{keeping_register};
 ghost use Rattle.boot.specs.Boot.{marked, settled, sector_of, first_left, second_left, hold_no_good, register_after, start_of, reply_to, boot_reply, boot_bytes};
 
 use app_image::Facts;
 use boot_choice::Choice;
 pub use laws::{answer_law, boot_examples};
-use node::{Node, Refusal, Settings};
+use node::{Node, Refusal, Refused, Settings};
 use otadata::{Reading, State, in_state};
 use partitions::App;
 use sectors::{SECTOR_SIZE, SectorNumber, readings, restate};
@@ -26,10 +27,23 @@ pub struct Start {
     pub facts: Facts,
 }
 
-/// Decides which app the node starts, and changes the states of its records. The refusals are 1, 2, 3 and 10; the register then stays
+/// Decides which app the node starts, and changes the states of its records. The refusals are 1, 2, 3 and 10; each returns the register
 /// as it was given, and only 10 leaves otadata changed, by the marks of pending records as aborted.
-#[tactic(auto, unfolding(crate::specs::Boot::boot_reply, crate::specs::Boot::boot_bytes))]
 pub fn boot(
+    words: &[u32],
+    flash: &[u8],
+    otadata: &mut [u8],
+    settings: Settings,
+) -> Result<Start, Refused>
+    ensures reply { result ≡ keeping_register settings (boot_reply words.now flash.now otadata.old settings) }
+    ensures bytes { otadata.new ≡ boot_bytes words.now flash.now otadata.old settings }
+{
+    settings.keeping_register(decide(words, flash, otadata, settings))
+}
+
+/// What boot decides: the start, or why there is none.
+#[tactic(auto, unfolding(crate::specs::Boot::boot_reply, crate::specs::Boot::boot_bytes))]
+fn decide(
     words: &[u32],
     flash: &[u8],
     otadata: &mut [u8],

@@ -45,7 +45,7 @@ pub fn ota_boot(
     let reply = boot(list, flash, otadata, settings);
     *out = match reply {
         Ok(start) => started(start),
-        Err(_) => [0, 0, 2, efuse, 0, 0],
+        Err(refused) => [0, 0, 2, refused.register, 0, 0],
     };
     number_of(reply)
 }
@@ -71,8 +71,8 @@ pub fn ota_set_boot(
     let reply = set_boot(list, flash, otadata, settings, Slot(slot));
     *out = match reply {
         Ok(done) => [0, 0, done.facts.length as u64, u64::from(done.facts.entry)],
-        Err(refusal) => {
-            let (number, place) = image_of(refusal);
+        Err(refused) => {
+            let (number, place) = image_of(refused.refusal);
             [number, place, 0, 0]
         }
     };
@@ -109,9 +109,9 @@ pub fn ota_mark_valid(
                 u64::from(done.facts.entry),
             ]
         }
-        Err(refusal) => {
-            let (number, place) = image_of(refusal);
-            [u64::from(efuse), number, place, 0, 0]
+        Err(refused) => {
+            let (number, place) = image_of(refused.refusal);
+            [u64::from(refused.register), number, place, 0, 0]
         }
     };
     number_of(reply)

@@ -9,7 +9,7 @@ ghost use Rattle.node.specs.Node.{size_test};
 use app_image::{Board, Facts, check};
 use efuse::{SecureVersion, raise, version};
 use partitions::{App, PartitionList};
-pub use refusal::Refusal;
+pub use refusal::{Refusal, Refused};
 
 /// The size of otadata in bytes: two sectors.
 pub const OTADATA_SIZE: usize = 8192;
@@ -26,6 +26,7 @@ pub struct Settings {
 impl Settings {
     ghost use Rattle.node.specs.Settings.{is_below_efuse, raised_to};
     ghost use Rattle.node.specs.Node.{settings_test};
+    ghost use Rattle.node.specs.Refused.{keeping_register};
 
     /// Whether anti-rollback is on, and the version is below that of the register.
     pub fn is_below_efuse(self, of: SecureVersion) -> bool
@@ -50,6 +51,19 @@ impl Settings {
             return Err(Refusal::BadSettings);
         }
         Ok(())
+    }
+
+    /// The reply of a call: a refusal returns the register as it was given.
+    pub fn keeping_register<T>(self, reply: Result<T, Refusal>) -> Result<T, Refused>
+        ensures { result ≡ keeping_register self reply }
+    {
+        match reply {
+            Ok(done) => Ok(done),
+            Err(refusal) => Err(Refused {
+                refusal,
+                register: self.efuse,
+            }),
+        }
     }
 }
 

@@ -96,3 +96,34 @@ impl fmt::Display for Refusal {
 }
 
 impl Error for Refusal {}
+
+/// Why a call that may raise the register is refused, with the register as it was given, so that a caller takes the register from the
+/// reply in every case.
+#[derive(Clone, Copy, Debug, PartialEq, Eq)]
+pub struct Refused {
+    pub refusal: Refusal,
+    pub register: u32,
+}
+
+impl Numbered for Refused {
+    ghost use Rattle.node.specs.Refused.{number_of_refused};
+
+    ghost number = { number_of_refused };
+
+    fn number(self) -> u32 {
+        self.refusal.number()
+    }
+}
+
+impl fmt::Display for Refused {
+    ghost use Rattle.std.specs.Prelude.{Some};
+    ghost use Rattle.node.specs.Refusal.{name_of};
+
+    ghost output = { λ refused. Some (name_of refused.refusal) };
+
+    fn fmt<W: fmt::Write>(&self, f: &mut fmt::Formatter<W>) -> fmt::Result {
+        self.refusal.fmt(f)
+    }
+}
+
+impl Error for Refused {}

@@ -10,13 +10,19 @@ use Rattle.app_image.specs.Refusal.{number_of as image_number, place_of}
 use Rattle.node.specs.declared.Settings.{Settings}
 use Rattle.node.specs.declared.refusal.Refusal.{Refusal}
 use Rattle.node.specs.declared.refusal.Refusal.TheVariants.{BadImage}
+use Rattle.node.specs.declared.refusal.Refused.{Refused}
 use Rattle.node.specs.Refusal.{number_of}
+use Rattle.node.specs.Refused.{number_of_refused, keeping_register}
 use Rattle.update.specs.declared.Completion.{Completion}
+use Rattle.update.specs.Invalid.{giving_register}
 
 -- the register after a set-boot or a mark-valid; a refusal returns it as given
+abbrev pub register_in : Result Completion Refused → ℕ
+register_in (Ok done) = done.register
+register_in (Err refused) = refused.register
+
 abbrev pub register_of : Settings → Result Completion Refusal → ℕ
-register_of settings (Ok done) = done.register
-register_of settings (Err refusal) = settings.efuse
+register_of settings reply = register_in (keeping_register settings reply)
 
 -- the number and the place of the image's own refusal, zero of any other
 abbrev pub image_of : Refusal → ℕ × ℕ
@@ -25,14 +31,29 @@ image_of _ = (0, 0)
 
 -- of set-boot and mark-valid: the register, then the image's number and place of a refusal with 5, then the length and the entry
 -- address of the image where done
+abbrev pub answer_to : Result Completion Refused → Answer
+answer_to (Ok done) = record { number = 0; values = done.register ∷ 0 ∷ 0 ∷ done.facts.length ∷ done.facts.entry ∷ [] }
+answer_to (Err refused) =
+    record {
+      number = number_of_refused refused;
+      values = refused.register ∷ (image_of refused.refusal).0 ∷ (image_of refused.refusal).1 ∷ 0 ∷ 0 ∷ [];
+    }
+
 abbrev pub answer_of : Settings → Result Completion Refusal → Answer
-answer_of settings (Ok done) = record { number = 0; values = done.register ∷ 0 ∷ 0 ∷ done.facts.length ∷ done.facts.entry ∷ [] }
-answer_of settings (Err refusal) = record { number = number_of refusal; values = settings.efuse ∷ (image_of refusal).0 ∷ (image_of refusal).1 ∷ 0 ∷ 0 ∷ [] }
+answer_of settings reply = answer_to (keeping_register settings reply)
+
+-- the register after a mark-invalid
+abbrev pub register_given : Result ℕ Refused → ℕ
+register_given (Ok register) = register
+register_given (Err refused) = refused.register
 
 -- of mark-invalid: the register
+abbrev pub invalid_answer_to : Result ℕ Refused → Answer
+invalid_answer_to (Ok register) = record { number = 0; values = register ∷ [] }
+invalid_answer_to (Err refused) = record { number = number_of_refused refused; values = refused.register ∷ [] }
+
 abbrev pub invalid_answer : Settings → Result (Unit {0}) Refusal → Answer
-invalid_answer settings (Ok done) = record { number = 0; values = settings.efuse ∷ [] }
-invalid_answer settings (Err refusal) = record { number = number_of refusal; values = settings.efuse ∷ [] }
+invalid_answer settings reply = invalid_answer_to (giving_register settings reply)
 
 -- of the state query: the word of the state
 abbrev pub query_answer : Result State Refusal → Answer

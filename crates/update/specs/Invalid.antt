@@ -11,6 +11,7 @@ use Rattle.node.specs.declared.Settings.{Settings}
 use Rattle.node.specs.declared.Node.{Node}
 use Rattle.node.specs.declared.refusal.Refusal.{Refusal}
 use Rattle.node.specs.declared.refusal.Refusal.TheVariants.{NoFallback}
+use Rattle.node.specs.declared.refusal.Refused.{Refused}
 use Rattle.node.specs.Refusal.{◌>>=◌, ◌>>◌, refuse_if}
 use Rattle.boot_choice.specs.Choice.{choice}
 use Rattle.update.specs.Tests.{node_with, running_sector, readings_in, changed_at}
@@ -73,3 +74,8 @@ mark_invalid_reply words flash otadata settings running = reply_in otadata runni
 
 unfoldable pub mark_invalid_bytes : List ℕ → List ℕ → List ℕ → Settings → Slot → List ℕ
 mark_invalid_bytes words flash otadata settings running = bytes_in otadata running (node_with words flash (length otadata) settings running)
+
+-- the caller gets the register as it was given, done or refused
+abbrev pub giving_register : Settings → Result (Unit {0}) Refusal → Result ℕ Refused
+giving_register settings (Ok done) = Ok settings.efuse
+giving_register settings (Err refusal) = Err (record { refusal = refusal; register = settings.efuse })

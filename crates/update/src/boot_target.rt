@@ -2,19 +2,34 @@
 ghost use Rattle.std.specs.Prelude.{◌≡◌};
 ghost use Rattle.sectors.specs.Sector.{readings};
 ghost use Rattle.sectors.specs.declared.reading.SectorNumber.TheVariants.{Zero, One};
+ghost use Rattle.node.specs.Refused.{keeping_register};
 ghost use Rattle.update.specs.SetBoot.{overwritten, new_placement, decision, reply_to, left_at, set_boot_reply, set_boot_bytes};
 
 use crate::{Completion, test_pending, test_slot};
 use app_image::Facts;
-use node::{Node, Refusal, Settings};
+use node::{Node, Refusal, Refused, Settings};
 use otadata::{Reading, Record, Sequence, Slot, State};
 use partitions::App;
 use sectors::{SECTOR_SIZE, SectorNumber, readings, rewrite};
 use slot_records::{Placement, active_naming, place_new};
 
-/// Has the next boot try the slot first. Gives the register as it was given, and the facts of the slot's image.
-#[tactic(auto, unfolding(crate::specs::SetBoot::set_boot_reply, crate::specs::SetBoot::set_boot_bytes, crate::specs::Tests::node_with))]
+/// Has the next boot try the slot first. Gives the register as it was given, refused or done, and the facts of the slot's image.
 pub fn set_boot(
+    words: &[u32],
+    flash: &[u8],
+    otadata: &mut [u8],
+    settings: Settings,
+    slot: Slot,
+) -> Result<Completion, Refused>
+    ensures reply { result ≡ keeping_register settings (set_boot_reply words.now flash.now otadata.old settings slot) }
+    ensures bytes { otadata.new ≡ set_boot_bytes words.now flash.now otadata.old settings slot }
+{
+    settings.keeping_register(set(words, flash, otadata, settings, slot))
+}
+
+/// Sets the slot: what set-boot comes to, or why it is refused.
+#[tactic(auto, unfolding(crate::specs::SetBoot::set_boot_reply, crate::specs::SetBoot::set_boot_bytes, crate::specs::Tests::node_with))]
+fn set(
     words: &[u32],
     flash: &[u8],
     otadata: &mut [u8],

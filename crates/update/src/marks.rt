@@ -3,24 +3,39 @@ ghost use Rattle.std.specs.Prelude.{◌≡◌};
 ghost use Rattle.sectors.specs.Rewrite.{in_other_state};
 ghost use Rattle.sectors.specs.Sector.{readings};
 ghost use Rattle.sectors.specs.declared.reading.SectorNumber.TheVariants.{Zero, One};
+ghost use Rattle.node.specs.Refused.{keeping_register};
 ghost use Rattle.update.specs.Tests.{running_sector};
 ghost use Rattle.update.specs.Marks.{confirmed, register_raised, confirmation, reply_to, left_at, mark_valid_reply, mark_valid_bytes};
-ghost use Rattle.update.specs.Invalid.{settled_reading, readings_without, invalidation, reply_to as invalid_reply, left_at as invalid_at, mark_invalid_reply, mark_invalid_bytes};
+ghost use Rattle.update.specs.Invalid.{settled_reading, readings_without, invalidation, reply_to as invalid_reply, left_at as invalid_at, mark_invalid_reply, mark_invalid_bytes, giving_register};
 
 use crate::{Completion, test_slot};
 use app_image::Facts;
 use boot_choice::Choice;
 use efuse::SecureVersion;
-use node::{Node, Refusal, Settings};
+use node::{Node, Refusal, Refused, Settings};
 use otadata::{Reading, Record, Slot, State, in_state};
 use partitions::App;
 use sectors::{SECTOR_SIZE, SectorNumber, read_sector, readings, restate};
 use slot_records::active_naming;
 
 /// Confirms the running app: the active record becomes valid. Gives the register to burn after this call, and the facts of the app's
-/// image.
-#[tactic(auto, unfolding(crate::specs::Marks::mark_valid_reply, crate::specs::Marks::mark_valid_bytes, crate::specs::Tests::node_with))]
+/// image. A refusal returns the register as it was given.
 pub fn mark_valid(
+    words: &[u32],
+    flash: &[u8],
+    otadata: &mut [u8],
+    settings: Settings,
+    running: Slot,
+) -> Result<Completion, Refused>
+    ensures reply { result ≡ keeping_register settings (mark_valid_reply words.now flash.now otadata.old settings running) }
+    ensures bytes { otadata.new ≡ mark_valid_bytes words.now flash.now otadata.old settings running }
+{
+    settings.keeping_register(set_valid(words, flash, otadata, settings, running))
+}
+
+/// Sets the running slot valid: what mark-valid comes to, or why it is refused.
+#[tactic(auto, unfolding(crate::specs::Marks::mark_valid_reply, crate::specs::Marks::mark_valid_bytes, crate::specs::Tests::node_with))]
+fn set_valid(
     words: &[u32],
     flash: &[u8],
     otadata: &mut [u8],
@@ -104,9 +119,25 @@ fn register_raised(settings: Settings, version: SecureVersion) -> u32
     }
 }
 
-/// Gives up the running app: the active record becomes invalid, if boot then has another app to start.
-#[tactic(auto, unfolding(crate::specs::Invalid::mark_invalid_reply, crate::specs::Invalid::mark_invalid_bytes, crate::specs::Tests::node_with))]
+/// Gives up the running app: the active record becomes invalid, if boot then has another app to start. Gives the register as it was
+/// given, refused or done.
 pub fn mark_invalid(
+    words: &[u32],
+    flash: &[u8],
+    otadata: &mut [u8],
+    settings: Settings,
+    running: Slot,
+) -> Result<u32, Refused>
+    ensures reply { result ≡ giving_register settings (mark_invalid_reply words.now flash.now otadata.old settings running) }
+    ensures bytes { otadata.new ≡ mark_invalid_bytes words.now flash.now otadata.old settings running }
+{
+    settings.keeping_register(set_invalid(words, flash, otadata, settings, running))?;
+    Ok(settings.efuse)
+}
+
+/// Sets the running slot invalid, or gives why that is refused.
+#[tactic(auto, unfolding(crate::specs::Invalid::mark_invalid_reply, crate::specs::Invalid::mark_invalid_bytes, crate::specs::Tests::node_with))]
+fn set_invalid(
     words: &[u32],
     flash: &[u8],
     otadata: &mut [u8],

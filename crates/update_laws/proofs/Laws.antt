@@ -1,5 +1,5 @@
 -- What set-boot leaves names the slot, and the next boot starts it; what mark-invalid leaves starts another app.
-use Rattle.std.proofs.Common.{◌≡◌, ℕ, ◌<◌, ◌==◌, ◌&&◌, Bool, true, false, is_some, is_none, if◌then◌else◌, List, ◌++◌, length, take, drop, take-append-drop, Option, Some, None, option_and_then, Result, Ok, inl, inr, refl, sym, ap, ap₂, subst, ◌∙◌, eqb-true}
+use Rattle.std.proofs.Common.{◌≡◌, ◌↔◌, ℕ, ◌<◌, ◌==◌, ◌&&◌, Bool, true, false, is_some, is_none, if◌then◌else◌, List, ◌++◌, length, take, drop, take-append-drop, Option, Some, None, option_and_then, Result, Ok, Err, inl, inr, refl, sym, ap, ap₂, subst, ◌∙◌, eqb-true}
 use Rattle.std.proofs.lemmas.List.{drop_at}
 use Rattle.otadata.specs.declared.records.Record.{Record}
 use Rattle.otadata.specs.declared.records.Sequence.{Sequence}
@@ -21,7 +21,7 @@ use Rattle.app_image.proofs.Acceptance.{accepted_fits, accepted_within}
 use Rattle.node.specs.declared.Settings.{Settings}
 use Rattle.node.specs.declared.Node.{Node}
 use Rattle.node.specs.declared.refusal.Refusal.{Refusal}
-use Rattle.node.specs.declared.refusal.Refusal.TheVariants.{NoFallback}
+use Rattle.node.specs.declared.refusal.Refusal.TheVariants.{NoFallback, NothingBootable}
 use Rattle.node.specs.Node.{node_of, admitted, passing}
 use Rattle.node.specs.Refusal.{◌>>◌, refuse_if}
 use Rattle.boot_choice.specs.declared.Choice.{Choice}
@@ -38,7 +38,7 @@ use Rattle.update.specs.declared.Completion.{Completion}
 use Rattle.update.specs.Tests.{node_with, running_sector, readings_in, changed_at}
 use Rattle.update.specs.SetBoot.{new_record, overwritten, if_placed, new_placement, written_at}
 use Rattle.update.specs.Invalid.{settled_reading, readings_without, invalidation, reply_to as invalid_reply_to, left_at as invalid_left_at, mark_invalid_reply, mark_invalid_bytes}
-use Rattle.update_laws.specs.Laws.{Given, set_boot, mark_invalid, boot_on, slots_in, SetsBoot, ImageLaw, SetBootLaw, NextBootLaw, FallbackLaw, without, KeepsLastApp, LastAppLaw}
+use Rattle.update_laws.specs.Laws.{Given, set_boot, mark_invalid, boot_on, slots_in, SetsBoot, ImageLaw, SetBootLaw, NextBootLaw, FallbackLaw, without, KeepsLastApp, LastAppLaw, FallsBackLaw}
 use Rattle.update_laws.proofs.Nodes.{passed, slots_are, image_admitted, admitted_passes}
 use Rattle.update_laws.proofs.Done.{with_slot, SetDone, set_done, valid_done, invalid_done}
 use Rattle.update_laws.proofs.Activity.{is_highest, of_active}
@@ -410,3 +410,23 @@ unfolding LastAppLaw
 last_app_law g node k is_tested is_running =
     let is_node = (with_slot g.words g.flash (length g.otadata) g.settings g.slot node is_tested).is_node in
     keeps_last_app g node k is_node is_tested is_running (choice node (found g node k is_node)) refl
+
+-- the settings that mark-invalid goes by are the node's
+same_found : (g : Given) (node : Node) (k : SectorNumber) (is_node : node_of g.words g.flash (length g.otadata) g.settings ≡ Ok node)
+    → readings_without g.settings k (readings_in g.otadata) ≡ found g node k is_node
+same_found g node k is_node =
+    ap (λ (s : Settings). readings_without s k (readings_in g.otadata)) (sym (accepted_is (boot_on g g.otadata) node is_node).same_settings)
+
+by_choice : (settings : Settings) (rs : List Reading) (made : Option Choice) → reply_by settings rs made ≡ Err NothingBootable ↔ made ≡ None
+by_choice settings rs None = (λ nothing. refl, λ none. refl)
+by_choice settings rs (Some made) = (λ nothing. absurd cc, λ none. absurd cc)
+
+pub falls_back_law : FallsBackLaw
+unfolding FallsBackLaw
+falls_back_law g node k is_node =
+    let both = by_choice node.settings (found g node k is_node) (choice node (found g node k is_node)) in
+    let same = same_found g node k is_node in
+    (
+      λ nothing. ap (choice node) same ∙ both.0 (sym (boot_replies g node k is_node) ∙ nothing),
+      λ none. boot_replies g node k is_node ∙ both.1 (sym (ap (choice node) same) ∙ none),
+    )

@@ -9,11 +9,12 @@ use Rattle.node.specs.declared.Node.{Node}
 use Rattle.node.specs.declared.refusal.Refusal.{Refusal}
 use Rattle.slot_records.specs.declared.Placement.{Placement}
 use Rattle.update.specs.declared.Completion.{Completion}
-use Rattle.update.specs.Answer.{register_of, invalid_answer}
+use Rattle.node.specs.Refused.{keeping_register}
+use Rattle.update.specs.Answer.{register_in, register_of, register_given}
 use Rattle.update.specs.Tests.{node_with}
 use Rattle.update.specs.SetBoot.{decision, reply_to as set_reply_to, left_at as set_left_at, reply_in as set_reply_in, bytes_in as set_bytes_in, set_boot_reply, set_boot_bytes}
 use Rattle.update.specs.Marks.{confirmation, reply_to as valid_reply_to, left_at as valid_left_at, reply_in as valid_reply_in, bytes_in as valid_bytes_in, mark_valid_reply, mark_valid_bytes}
-use Rattle.update.specs.Invalid.{invalidation, reply_to as invalid_reply_to, left_at as invalid_left_at, reply_in as invalid_reply_in, bytes_in as invalid_bytes_in, mark_invalid_reply, mark_invalid_bytes}
+use Rattle.update.specs.Invalid.{invalidation, reply_to as invalid_reply_to, left_at as invalid_left_at, reply_in as invalid_reply_in, bytes_in as invalid_bytes_in, mark_invalid_reply, mark_invalid_bytes, giving_register}
 use Rattle.boot_laws.proofs.Boots.{accepted_is}
 use Rattle.update_laws.specs.Laws.{Given, set_boot, mark_valid, mark_invalid, boot_on, RefusalLaw, RegisterLaw}
 use Rattle.update_laws.proofs.Done.{with_slot}
@@ -22,8 +23,8 @@ refused_register : (settings : Settings) (reply : Result Completion Refusal) (re
 refused_register settings (Ok done) refusal is = absurd cc
 refused_register settings (Err e) refusal is = refl
 
--- the answer of a mark-invalid has the register as it was given
-given_register : (settings : Settings) (reply : Result (Unit {0}) Refusal) → slice_index (invalid_answer settings reply).values 0 ≡ settings.efuse
+-- a mark-invalid gives the register as it was given
+given_register : (settings : Settings) (reply : Result (Unit {0}) Refusal) → register_given (giving_register settings reply) ≡ settings.efuse
 given_register settings (Ok done) = refl
 given_register settings (Err refusal) = refl
 

@@ -1,5 +1,5 @@
 -- What holds of every set-boot and every mark, on any bytes.
-use Rattle.std.specs.Prelude.{◌≡◌, ℕ, List, ◌++◌, length, take, drop, replicate, slice_index, ◌⊎◌, ◌↔◌, Some, Result, Ok, Err}
+use Rattle.std.specs.Prelude.{◌≡◌, ℕ, List, ◌++◌, length, take, drop, replicate, ◌⊎◌, ◌↔◌, Some, None, Result, Ok, Err}
 use Rattle.otadata.specs.declared.records.Record.{Record}
 use Rattle.otadata.specs.declared.records.Sequence.{Sequence}
 use Rattle.otadata.specs.declared.records.Slot.{Slot}
@@ -17,15 +17,18 @@ use Rattle.node.specs.declared.Settings.{Settings}
 use Rattle.node.specs.declared.Node.{Node}
 use Rattle.node.specs.declared.refusal.Refusal.{Refusal}
 use Rattle.node.specs.declared.refusal.Refusal.TheVariants.{NoFallback, NothingBootable}
+use Rattle.boot_choice.specs.Choice.{choice}
 use Rattle.slot_records.specs.Placing.{placement}
 use Rattle.boot.specs.declared.Start.{Start}
 use Rattle.boot_laws.specs.Laws.{Boot, sector, reply as boot_reply, OfImage}
 use Rattle.update.specs.declared.Completion.{Completion}
-use Rattle.update.specs.Answer.{register_of, invalid_answer}
+use Rattle.node.specs.Node.{node_of}
+use Rattle.node.specs.Refused.{keeping_register}
+use Rattle.update.specs.Answer.{register_in, register_given}
 use Rattle.update.specs.Tests.{node_with, running_sector, readings_in, changed_at}
 use Rattle.update.specs.SetBoot.{new_state, set_boot_reply, set_boot_bytes}
 use Rattle.update.specs.Marks.{mark_valid_reply, mark_valid_bytes}
-use Rattle.update.specs.Invalid.{mark_invalid_reply, mark_invalid_bytes}
+use Rattle.update.specs.Invalid.{mark_invalid_reply, mark_invalid_bytes, giving_register, readings_without}
 
 -- ---- a call
 
@@ -37,7 +40,7 @@ pub record Given : Type 0 where
   pub settings : Settings
   pub slot : Slot
 
--- what a call comes to: its reply, the otadata that it leaves, and the register after it
+-- what a call comes to: its reply, the otadata that it leaves, and the register that its caller gets, refused or done
 pub record Outcome (Reply : Type 0) : Type 0 where
   pub reply : Result Reply Refusal
   pub otadata : List ℕ
@@ -48,7 +51,7 @@ set_boot g =
     record {
       reply = set_boot_reply g.words g.flash g.otadata g.settings g.slot;
       otadata = set_boot_bytes g.words g.flash g.otadata g.settings g.slot;
-      register = register_of g.settings (set_boot_reply g.words g.flash g.otadata g.settings g.slot);
+      register = register_in (keeping_register g.settings (set_boot_reply g.words g.flash g.otadata g.settings g.slot));
     }
 
 abbrev pub mark_valid : Given → Outcome Completion
@@ -56,16 +59,15 @@ mark_valid g =
     record {
       reply = mark_valid_reply g.words g.flash g.otadata g.settings g.slot;
       otadata = mark_valid_bytes g.words g.flash g.otadata g.settings g.slot;
-      register = register_of g.settings (mark_valid_reply g.words g.flash g.otadata g.settings g.slot);
+      register = register_in (keeping_register g.settings (mark_valid_reply g.words g.flash g.otadata g.settings g.slot));
     }
 
--- mark-invalid replies no register of its own: its answer gives one
 abbrev pub mark_invalid : Given → Outcome (Unit {0})
 mark_invalid g =
     record {
       reply = mark_invalid_reply g.words g.flash g.otadata g.settings g.slot;
       otadata = mark_invalid_bytes g.words g.flash g.otadata g.settings g.slot;
-      register = slice_index (invalid_answer g.settings (mark_invalid_reply g.words g.flash g.otadata g.settings g.slot)).values 0;
+      register = register_given (giving_register g.settings (mark_invalid_reply g.words g.flash g.otadata g.settings g.slot));
     }
 
 -- a boot with the same list, flash and settings, lent this otadata
@@ -171,3 +173,12 @@ LastAppLaw =
     → node_with g.words g.flash (length g.otadata) g.settings g.slot ≡ Ok node
     → running_sector node (readings_in g.otadata) g.slot ≡ Ok k
     → KeepsLastApp g (without k g.otadata)
+
+-- boot, on otadata where the record of sector k is invalid, finds nothing to start exactly if the readings that mark-invalid looks at leave
+-- no choice: of every sector k, whatever it holds and whichever app runs
+unfoldable pub FallsBackLaw : Type 0
+FallsBackLaw =
+    (g : Given) (node : Node) (k : SectorNumber)
+    → node_of g.words g.flash (length g.otadata) g.settings ≡ Ok node
+    → (boot_reply (boot_on g (without k g.otadata)) ≡ Err NothingBootable
+    ↔ choice node (readings_without g.settings k (readings_in g.otadata)) ≡ None)

@@ -1,7 +1,7 @@
 //! What holds of every set-boot and every mark, on any bytes: each law is the contract of the function of its name.
 #![tactic(auto)]
 
-ghost use Rattle.update_laws.specs.Laws.{RefusalLaw, RegisterLaw, ImageLaw, SetBootLaw, NextBootLaw, FallbackLaw, LastAppLaw};
+ghost use Rattle.update_laws.specs.Laws.{RefusalLaw, RegisterLaw, ImageLaw, SetBootLaw, NextBootLaw, FallbackLaw, LastAppLaw, FallsBackLaw};
 
 /// A refusal changes no byte of otadata, and leaves the register as it was given.
 #[tactic(auto, using(crate::proofs::Refusals::refusal_law))]
@@ -43,4 +43,10 @@ pub fn fallback_law()
 #[tactic(auto, using(crate::proofs::Laws::last_app_law))]
 pub fn last_app_law()
     ensures { LastAppLaw }
+{}
+
+/// With the record of a sector invalid, boot finds nothing to start exactly if the readings without it leave nothing to fall back to.
+#[tactic(auto, using(crate::proofs::Laws::falls_back_law))]
+pub fn falls_back_law()
+    ensures { FallsBackLaw }
 {}
