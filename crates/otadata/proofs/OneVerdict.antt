@@ -120,3 +120,29 @@ unfolding ViewLaw
 view_law bytes =
     by_tests bytes (length bytes == 32) (is_blank bytes) (is_sequence (sequence_field bytes)) (check_field bytes == check_word (sequence_field bytes))
     (state_of (state_field bytes)) refl refl refl refl refl
+
+-- ---- every reading is a good record, or there is none
+
+-- no record makes it a good one
+abbrev pub NoRecord : Reading → Type 0
+NoRecord reading = (r : Record) → reading ≢ Ok r
+
+-- what holds of those and of a good one holds of every reading
+pub by_verdict : (P : Reading → Type 0) → ((reading : Reading) → NoRecord reading → P reading) → ((r : Record) → P (Ok r)) → (reading : Reading) → P reading
+by_verdict P other good (Err fault) = other (Err fault) (λ r is. cc)
+by_verdict P other good (Ok r) = good r
+
+-- what is true of a good record alone
+abbrev pub if_good : (Record → Bool) → Reading → Bool
+if_good so (Ok r) = so r
+if_good so (Err fault) = false
+
+-- tells that the record is good
+pub record GoodSo (so : Record → Bool) (reading : Reading) : Type 0 where
+  pub found : Record
+  pub is : reading ≡ Ok found
+  pub holds : so found ≡ true
+
+pub good_so : (so : Record → Bool) (reading : Reading) → if_good so reading ≡ true → GoodSo so reading
+good_so so (Ok r) holds = record { found = r; is = refl; holds = holds }
+good_so so (Err fault) holds = cc

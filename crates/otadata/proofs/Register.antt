@@ -15,7 +15,7 @@ table_is = refl
 pub entry_is : (k : ℕ) → k < 256 → slice_index TABLE k ≡ steps 8 k
 entry_is k below = ap (λ (xs : List ℕ). slice_index xs k) table_is ∙ get_or-map-range_with_len (steps 8) 0 256 k k 0 below (omega arith)
 
-xor_swap : (a b c : ℕ) → bit_xor (bit_xor a b) c ≡ bit_xor (bit_xor a c) b
+pub xor_swap : (a b c : ℕ) → bit_xor (bit_xor a b) c ≡ bit_xor (bit_xor a c) b
 xor_swap a b c = xor_assoc a b c ∙ ap (bit_xor a) (xor_comm b c) ∙ sym (xor_assoc a c b)
 
 -- the bits above the lowest move down

@@ -3,16 +3,20 @@ use Rattle.std.specs.Prelude.{◌≡◌, true, [], ◌∷◌, ◌++◌, replicat
 use Rattle.otadata.specs.declared.records.Fault.TheVariants.{WrongSize, Blank, BadSequence, BadCheckWord, BadState}
 use Rattle.otadata.specs.CheckWord.{check_word}
 use Rattle.otadata.specs.Record.{fields, read, made}
+use Rattle.otadata.specs.Answer.{number_of_not_good}
+use Rattle.otadata.specs.Number.{reply_number}
 
 pub record Examples : Type 0 where
   -- the check words of the sequences 1 and 2
   pub check_word_of_1 : check_word 1 ≡ 0x4743989A
   pub check_word_of_2 : check_word 2 ≡ 0x55F63774
-  -- the record of sequence 1, label 20 bytes 0xFF, state undefined; no good record has the sequence 0
+  -- the record of sequence 1, label 20 bytes 0xFF, state undefined; no good record has the sequence 0, and its fields are refused with 17
   pub first_record :
       made (record { 0 = 1 }) (replicate 20 0xFF) 0xFFFFFFFF
       ≡ Ok (0x01 ∷ 0x00 ∷ 0x00 ∷ 0x00 ∷ [] ++ replicate 24 0xFF ++ 0x9A ∷ 0x98 ∷ 0x43 ∷ 0x47 ∷ [])
-  pub refused_record : made (record { 0 = 0 }) (replicate 20 0xFF) 0xFFFFFFFF ≡ Err (record {})
+  pub refused_record :
+      let refused = made (record { 0 = 0 }) (replicate 20 0xFF) 0xFFFFFFFF in
+      (refused ≡ Err (record {})) × (reply_number number_of_not_good refused ≡ 17)
   -- the highest sequence of a good record
   pub highest_sequence : is_ok (read (fields 4294967294 (replicate 20 0xFF) 0xFFFFFFFF)) ≡ true
   -- an erased record is blank, although its sequence is 4,294,967,295; with any other byte its sequence is bad

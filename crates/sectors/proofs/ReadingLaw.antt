@@ -300,6 +300,13 @@ reading_law start calls before bytes k history = (known_after start calls before
 pub after_size : (start : List ℕ) (calls : List Call) (before bytes : List ℕ) (k : ℕ) → History start calls before bytes k → length (after calls start) ≡ 4096
 after_size start calls before bytes k history = (known_after start calls before bytes k history).size
 
+-- a single cut rewrite is such a history
+pub one_rewrite : (start bytes : List ℕ) (k : ℕ)
+    → length start ≡ 4096 → All (λ byte. byte < 256) start → IsBlank start ⊎ (is_good (record_in start) ≡ true)
+    → All (λ byte. byte < 256) bytes → is_good bytes ≡ true → k ≤ 4128 → History start (rewrite_cut bytes k ∷ []) start bytes k
+one_rewrite start bytes k size start_are_bytes begins are_bytes good upto =
+    record { size = size; are_bytes = start_are_bytes; begins = begins; each = ((are_bytes, good, upto), tt); ends = refl }
+
 -- ---- a finished rewrite, on whatever bytes
 
 pub finished_law : FinishedLaw

@@ -1,5 +1,5 @@
 -- What a sector reads as once it is rewritten, whole or with its record in another state.
-use Rattle.std.proofs.Common.{◌≡◌, ℕ, ◌==◌, true, List, length, Option, Some, None, Result, Ok, Err, refl, sym, ap, ◌∙◌, arith, eqb-true}
+use Rattle.std.proofs.Common.{◌≡◌, ◌≢◌, ℕ, ◌==◌, true, List, length, Option, Some, None, Result, Ok, Err, refl, sym, ap, ◌∙◌, arith, eqb-true}
 use Rattle.std.specs.Result.{result_unwrap_or}
 use Rattle.std.proofs.lemmas.Bool.Decides.{nat_tests}
 use Rattle.std.proofs.lemmas.Grind.{common_steps}
@@ -82,6 +82,15 @@ pub record_restated : (state : State) (s : List ℕ) (r : Record) → read_secto
     → restated state s ≡ result_unwrap_or (rewrite s (bytes_of (record r { state = state }))) s
 unfolding restated
 record_restated state s r is = ap (λ (reading : Reading). rewritten_with (in_other_state state reading) s) is
+
+none_by : (state : State) (s : List ℕ) (reading : Reading) → ((r : Record) → reading ≢ Ok r) → rewritten_with (in_other_state state reading) s ≡ s
+none_by state s (Err fault) none = refl
+none_by state s (Ok r) none = absurd (none r refl)
+
+-- a sector without a good record stays as it is
+pub none_restated : (state : State) (s : List ℕ) → ((r : Record) → read_sector s ≢ Ok r) → restated state s ≡ s
+unfolding restated
+none_restated state s none = none_by state s (read_sector s) none
 
 size_by : (s : List ℕ) (reading : Reading) → length (rewritten_with reading s) ≡ length s
 size_by s (Err fault) = refl

@@ -49,6 +49,11 @@ module _ (xs : List ℕ) (from size start end : ℕ) (start_is : start ≡ min f
       ap₂ (λ (front back : List ℕ). front ++ (ys ++ back)) (ap (λ k. take k xs) start_is ∙ take_min from xs)
       (ap₂ drop size_is rest_is ∙ drop_min size (drop from xs))
 
+  -- bytes that come of the slice, put in its place
+  pub with_slice_of : (f : List ℕ → List ℕ) (ys : List ℕ) → ys ≡ f (take (end - start) (drop start xs))
+      → take start xs ++ (ys ++ drop (end - start) (drop start xs)) ≡ with_slice from size (f (slice from size xs)) xs
+  with_slice_of f ys is = with_slice_is ys ∙ ap (λ (zs : List ℕ). with_slice from size zs xs) (is ∙ ap f slice_is)
+
 -- ---- a call on sector k
 
 pub done_left_at : (k : ℕ) (otadata : List ℕ) (r : Result (List ℕ) Refusal) → done (left_at k otadata r) ≡ done r

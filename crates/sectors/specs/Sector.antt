@@ -47,10 +47,10 @@ highest (Some first) None = Some Zero
 highest None (Some second) = Some One
 highest (Some first) (Some second) = Some (if nat_lt first.0 second.0 then One else Zero)
 
--- the sector of the active record: the usable one with the higher sequence, sector 0 on a tie
+-- the sector of the active record: the usable one with the higher sequence, sector 0 on a tie; a missing reading counts as none
 abbrev pub active : List Reading → Option SectorNumber
 active [] = None
-active (first ∷ []) = None
+active (first ∷ []) = highest (usable_sequence first) None
 active (first ∷ second ∷ rest) = highest (usable_sequence first) (usable_sequence second)
 
 -- of two records by which of them count, and whether the second has the higher sequence: the higher, sector 0 on a tie

@@ -1,10 +1,11 @@
 -- Which record names a slot, with n slots.
-use Rattle.std.specs.Prelude.{ℕ, Bool, false, ◌==◌, List, [], ◌∷◌, Option, Some, None, Ok, option_map, option_and_then, if◌then◌else◌}
+use Rattle.std.specs.Prelude.{ℕ, Bool, false, ◌==◌, List, [], ◌∷◌, Option, Some, None, Ok, Err, option_map, option_and_then, if◌then◌else◌}
 use Rattle.std.specs.Option.{option_or}
 use Rattle.std.specs.Result.{result_ok}
 use Rattle.otadata.specs.declared.records.Sequence.{Sequence}
 use Rattle.otadata.specs.declared.records.Slot.{Slot}
 use Rattle.otadata.specs.declared.records.Record.{Record}
+use Rattle.otadata.specs.declared.records.Fault.TheVariants.{WrongSize}
 use Rattle.otadata.specs.declared.states.State.TheVariants.{Pending}
 use Rattle.otadata.specs.Record.{Reading, slot_of, in_state}
 use Rattle.sectors.specs.declared.reading.SectorNumber.{SectorNumber}
@@ -21,10 +22,10 @@ abbrev pub held_at : Reading → Reading → SectorNumber → Option (SectorNumb
 held_at first second Zero = option_map (λ r. (Zero, r)) (result_ok first)
 held_at first second One = option_map (λ r. (One, r)) (result_ok second)
 
--- the active record, with its sector
+-- the active record, with its sector; a missing reading counts as none
 unfoldable pub active_at : List Reading → Option (SectorNumber × Record)
 active_at [] = None
-active_at (first ∷ []) = None
+active_at (first ∷ []) = option_and_then (held_at first (Err WrongSize)) (active (first ∷ []))
 active_at (first ∷ second ∷ rest) = option_and_then (held_at first second) (active (first ∷ second ∷ rest))
 
 -- the sector of the active record, if that names the slot
@@ -48,7 +49,7 @@ naming_sequence n slot reading = option_and_then (λ r. if names n slot r then S
 -- the sector of the good record of highest sequence that names the slot, sector 0 on a tie
 unfoldable pub highest_naming : ℕ → Slot → List Reading → Option SectorNumber
 highest_naming n slot [] = None
-highest_naming n slot (first ∷ []) = None
+highest_naming n slot (first ∷ []) = highest (naming_sequence n slot first) None
 highest_naming n slot (first ∷ second ∷ rest) = highest (naming_sequence n slot first) (naming_sequence n slot second)
 
 -- the active record if it names the slot, else the good record of highest sequence that names it
