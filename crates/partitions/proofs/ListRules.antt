@@ -1,17 +1,17 @@
 -- What the rules give of an accepted list.
-use Rattle.std.proofs.Common.{◌≡◌, refl, ℕ, ◌+◌, ◌/◌, ◌≤◌, ◌<◌, Bool, true, false, not, cond, List, [], ◌∷◌, Some, find, length, map, count_by, drop, zero, suc, Ok, arith}
+use Rattle.std.proofs.Common.{◌≡◌, refl, ℕ, ◌+◌, ◌*◌, ◌/◌, ◌≤◌, ◌<◌, Bool, true, false, not, cond, List, [], ◌∷◌, Some, find, length, map, count_by, drop, zero, suc, Ok, arith}
 use Rattle.std.specs.List.{list_all}
 use Rattle.std.specs.Simd.{first_chunks}
 use Rattle.std.proofs.lemmas.Bool.Decides.{nat_tests}
 use Rattle.std.proofs.lemmas.Grind.{common_steps}
 use Rattle.std.proofs.lemmas.List.Sums.{sum_by-cons}
-use Rattle.partitions.specs.declared.TheConstants.{MAX_SLOTS, MAX_FLASH, MAX_WORDS}
+use Rattle.partitions.specs.declared.TheConstants.{MAX_FLASH}
 use Rattle.partitions.specs.declared.entry.Entry.{Entry}
 use Rattle.partitions.specs.Entry.{entry_of, end_of, entry_bytes, is_factory, keeps_rules}
-use Rattle.partitions.specs.PartitionList.{entries_of, keep_rules, slot_count, times_listed, entry_with, all_keep_rules, is_right, Partitions, list_of}
+use Rattle.partitions.specs.PartitionList.{max_slots, max_flash, entries_of, keep_rules, slot_count, times_listed, entry_with, all_keep_rules, is_right, Partitions, list_of}
 
 -- n fits a u32
-pub slots_fit : (entries : List Entry) (capacity : ℕ) → keep_rules entries capacity ≡ true → slot_count entries ≤ MAX_SLOTS
+pub slots_fit : (entries : List Entry) (capacity : ℕ) → keep_rules entries capacity ≡ true → slot_count entries ≤ max_slots
 unfolding keep_rules
 slots_fit entries capacity keeps = grind (arith, nat_tests)
 
@@ -34,10 +34,10 @@ entry_ends entries capacity subtype e found keeps =
     grind (arith, nat_tests)
 
 -- no entry of an accepted list has more bytes than the longest flash
-pub bytes_fit : (entries : List Entry) (flash : List ℕ) (e : Entry) → keep_rules entries (length flash) ≡ true → length (entry_bytes e flash) ≤ MAX_FLASH
+pub bytes_fit : (entries : List Entry) (flash : List ℕ) (e : Entry) → keep_rules entries (length flash) ≡ true → length (entry_bytes e flash) ≤ max_flash
 unfolding keep_rules
 bytes_fit entries flash e keeps =
-    let fits : length flash ≤ MAX_FLASH = grind (arith, nat_tests) in
+    let fits : length flash ≤ max_flash = grind (arith, nat_tests) in
     grind (arith, common_steps, fits)
 
 -- the same of the words
@@ -62,7 +62,7 @@ length_chunks n zero xs = refl
 length_chunks n (suc k) xs = grind (arith, length_chunks n k (drop n xs))
 
 -- a list of more words has too many slots, or breaks another rule
-pub too_long : (words : List ℕ) (capacity : ℕ) → MAX_WORDS < length words → is_right words capacity ≡ false
+pub too_long : (words : List ℕ) (capacity : ℕ) → 3 * (max_slots + 1) < length words → is_right words capacity ≡ false
 unfolding is_right keep_rules slot_count times_listed
 too_long words capacity long =
     let entries = entries_of words in

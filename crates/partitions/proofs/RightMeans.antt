@@ -5,17 +5,15 @@ use Rattle.std.proofs.lemmas.Bool.{or_cases}
 use Rattle.std.proofs.lemmas.Bool.Decides.{nat_tests}
 use Rattle.std.proofs.lemmas.List.Sums.{AllPass-from_list_all, list_all-from_AllPass}
 use Rattle.std.proofs.lemmas.List.FromFn.{length-range_with_len, get_or-range_with_len}
-use Rattle.partitions.specs.declared.TheConstants.{MAX_FLASH}
-use Rattle.partitions.specs.declared.entry.TheConstants.{FACTORY, FIRST_SLOT}
 use Rattle.partitions.specs.declared.entry.Entry.{Entry}
-use Rattle.partitions.specs.Entry.{keeps_rules, is_apart_from}
-use Rattle.partitions.specs.PartitionList.{entries_of, times_listed, slot_count, has_each_slot_once, all_keep_rules, is_apart_from_all, are_apart, keep_rules, is_right}
+use Rattle.partitions.specs.Entry.{factory_subtype, slot_subtype, keeps_rules, is_apart_from}
+use Rattle.partitions.specs.PartitionList.{max_flash, entries_of, times_listed, slot_count, has_each_slot_once, all_keep_rules, is_apart_from_all, are_apart, keep_rules, is_right}
 use Rattle.partitions.specs.RightList.{FactoryOrSlot, ShareNoByte, RightEntry, RightEntries, RightList, RightMeans}
 
 -- ---- an entry
 
-known_means : (n t : ℕ) → ((t == FACTORY) || (nat_le FIRST_SLOT t && nat_lt t (FIRST_SLOT + n))) ≡ true → FactoryOrSlot n t
-known_means n t known = grind (arith, nat_tests, or_cases (t == FACTORY) (nat_le FIRST_SLOT t && nat_lt t (FIRST_SLOT + n)) known)
+known_means : (n t : ℕ) → ((t == factory_subtype) || (nat_le (slot_subtype 0) t && nat_lt t (slot_subtype n))) ≡ true → FactoryOrSlot n t
+known_means n t known = grind (arith, nat_tests, or_cases (t == factory_subtype) (nat_le (slot_subtype 0) t && nat_lt t (slot_subtype n)) known)
 
 entry_means : (n capacity : ℕ) (e : Entry) → keeps_rules n capacity e ≡ true → RightEntry n capacity e
 entry_means n capacity e keeps =
@@ -63,16 +61,16 @@ pairs_from (e ∷ es) some none =
 -- ---- the list
 
 module _ (es : List Entry) (capacity : ℕ) where
-  slots_mean : has_each_slot_once (slot_count es) es ≡ true → (s : ℕ) → s < slot_count es → times_listed (FIRST_SLOT + s) es ≡ 1
+  slots_mean : has_each_slot_once (slot_count es) es ≡ true → (s : ℕ) → s < slot_count es → times_listed (slot_subtype s) es ≡ 1
   unfolding has_each_slot_once
   slots_mean once s below =
-      let at = AllPass-from_list_all (λ k. times_listed (FIRST_SLOT + k) es == 1) (range_with_len 0 (slot_count es)) once s 0 (omega (arith, length-range_with_len 0 (slot_count es))) in
+      let at = AllPass-from_list_all (λ k. times_listed (slot_subtype k) es == 1) (range_with_len 0 (slot_count es)) once s 0 (omega (arith, length-range_with_len 0 (slot_count es))) in
       grind (arith, nat_tests, at, get_or-range_with_len 0 (slot_count es) s 0 below)
 
-  slots_from : ((s : ℕ) → s < slot_count es → times_listed (FIRST_SLOT + s) es ≡ 1) → has_each_slot_once (slot_count es) es ≡ true
+  slots_from : ((s : ℕ) → s < slot_count es → times_listed (slot_subtype s) es ≡ 1) → has_each_slot_once (slot_count es) es ≡ true
   unfolding has_each_slot_once
   slots_from once =
-      list_all-from_AllPass (λ k. times_listed (FIRST_SLOT + k) es == 1) (range_with_len 0 (slot_count es))
+      list_all-from_AllPass (λ k. times_listed (slot_subtype k) es == 1) (range_with_len 0 (slot_count es))
       (λ s d l.
       let below : s < slot_count es = omega (arith, length-range_with_len 0 (slot_count es)) in
       grind (arith, nat_tests, once s below, get_or-range_with_len 0 (slot_count es) s d below))
@@ -89,7 +87,7 @@ module _ (es : List Entry) (capacity : ℕ) where
         separate = pairs_mean es (grind (arith, nat_tests));
       }
 
-  entries_from : RightEntries es capacity → capacity ≤ MAX_FLASH → keep_rules es capacity ≡ true
+  entries_from : RightEntries es capacity → capacity ≤ max_flash → keep_rules es capacity ≡ true
   unfolding keep_rules all_keep_rules
   entries_from right fits =
       let each = list_all-from_AllPass (keeps_rules (slot_count es) capacity) es (λ k d l. entry_from (slot_count es) capacity (slice_index_or es k d) (right.each k d l)) in

@@ -2,7 +2,6 @@
 use Rattle.std.specs.Prelude.{ℕ, ◌+◌, ◌%◌, Bool, not, ◌&&◌, ◌||◌, ◌==◌, nat_le, nat_lt, List, slice_index, slice_range}
 use Rattle.sectors.specs.Part.{Part}
 use Rattle.partitions.specs.declared.entry.Entry.{Entry}
-use Rattle.partitions.specs.declared.entry.TheConstants.{FACTORY, FIRST_SLOT}
 
 -- a triple of subtype, offset and size
 abbrev pub entry_of : List ℕ → Entry
@@ -13,13 +12,20 @@ abbrev pub end_of : Entry → ℕ
 end_of e = e.offset + e.size
 
 -- factory is subtype 0
+abbrev pub factory_subtype : ℕ
+factory_subtype = 0
+
+-- the OTA slots are 16 and up
+abbrev pub slot_subtype : ℕ → ℕ
+slot_subtype s = 16 + s
+
 abbrev pub is_factory : Entry → Bool
-is_factory e = e.subtype == FACTORY
+is_factory e = e.subtype == factory_subtype
 
 -- factory, or one of n slots; the offset a multiple of 65,536, the size a nonzero multiple of 4,096; and it ends within the flash
 abbrev pub keeps_rules : ℕ → ℕ → Entry → Bool
 keeps_rules n capacity e =
-    (is_factory e || (nat_le FIRST_SLOT e.subtype && nat_lt e.subtype (FIRST_SLOT + n)))
+    (is_factory e || (nat_le (slot_subtype 0) e.subtype && nat_lt e.subtype (slot_subtype n)))
     && (e.offset % 65536 == 0)
     && not (e.size == 0)
     && (e.size % 4096 == 0)

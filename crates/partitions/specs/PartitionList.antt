@@ -3,14 +3,12 @@ use Rattle.std.specs.Prelude.{ℕ, ◌+◌, ◌/◌, ◌%◌, Bool, true, not, �
 use Rattle.std.specs.List.{list_all, list_any, range_with_len}
 use Rattle.std.specs.Simd.{first_chunks}
 use Rattle.sectors.specs.Part.{Part}
-use Rattle.partitions.specs.declared.TheConstants.{MAX_SLOTS, MAX_FLASH}
-use Rattle.partitions.specs.declared.entry.TheConstants.{FACTORY, FIRST_SLOT}
 use Rattle.partitions.specs.declared.entry.Entry.{Entry}
 use Rattle.partitions.specs.declared.list.App.{App}
 use Rattle.partitions.specs.declared.list.App.TheVariants.{Factory, OtaSlot}
 use Rattle.partitions.specs.declared.list.BadList.{BadList}
 use Rattle.partitions.specs.declared.parts.Listing.{Listing}
-use Rattle.partitions.specs.Entry.{entry_of, is_factory, keeps_rules, is_apart_from, entry_bytes, entry_part}
+use Rattle.partitions.specs.Entry.{entry_of, factory_subtype, slot_subtype, is_factory, keeps_rules, is_apart_from, entry_bytes, entry_part}
 
 -- a list that keeps its rules, and the flash that it speaks of
 pub record Partitions : Type 0 where
@@ -23,6 +21,14 @@ entries_of words = map entry_of (first_chunks 3 (length words / 3) words)
 
 -- ---- the rules
 
+-- a list has at most 16 slots
+abbrev pub max_slots : ℕ
+max_slots = 16
+
+-- a flash has at most 16,777,216 bytes
+abbrev pub max_flash : ℕ
+max_flash = 16777216
+
 -- how often a subtype is listed
 unfoldable pub times_listed : ℕ → List Entry → ℕ
 times_listed subtype entries = count_by (λ e. e.subtype == subtype) entries
@@ -33,7 +39,7 @@ slot_count entries = count_by (λ e. not (is_factory e)) entries
 
 -- each of n slots is listed exactly once
 unfoldable pub has_each_slot_once : ℕ → List Entry → Bool
-has_each_slot_once n entries = list_all (λ s. times_listed (FIRST_SLOT + s) entries == 1) (range_with_len 0 n)
+has_each_slot_once n entries = list_all (λ s. times_listed (slot_subtype s) entries == 1) (range_with_len 0 n)
 
 -- each entry keeps the rules of one entry
 unfoldable pub all_keep_rules : ℕ → ℕ → List Entry → Bool
@@ -52,10 +58,10 @@ are_apart (e ∷ es) = is_apart_from_all e es && are_apart es
 unfoldable pub keep_rules : List Entry → ℕ → Bool
 keep_rules entries capacity =
     let n = slot_count entries in
-    nat_le capacity MAX_FLASH
-    && nat_le (times_listed FACTORY entries) 1
+    nat_le capacity max_flash
+    && nat_le (times_listed factory_subtype entries) 1
     && nat_le 2 n
-    && nat_le n MAX_SLOTS
+    && nat_le n max_slots
     && has_each_slot_once n entries
     && all_keep_rules n capacity entries
     && are_apart entries
@@ -93,8 +99,8 @@ check words capacity =
 
 -- the subtype that lists an app
 abbrev pub subtype_of : App → ℕ
-subtype_of Factory = FACTORY
-subtype_of (OtaSlot slot) = FIRST_SLOT + slot.0
+subtype_of Factory = factory_subtype
+subtype_of (OtaSlot slot) = slot_subtype slot.0
 
 -- the first entry of a subtype, if it is listed
 unfoldable pub entry_with : ℕ → List Entry → Option Entry

@@ -1,14 +1,12 @@
 -- The rules of a partition list, sentence by sentence, and that the test `is_right` is the test of exactly these.
-use Rattle.std.specs.Prelude.{ℕ, ◌+◌, ◌%◌, ◌<◌, ◌≤◌, ◌≡◌, IsTrue, List, All, AllPairs, ◌⊎◌, ◌↔◌, length}
-use Rattle.partitions.specs.declared.TheConstants.{MAX_SLOTS, MAX_FLASH}
-use Rattle.partitions.specs.declared.entry.TheConstants.{FACTORY, FIRST_SLOT}
+use Rattle.std.specs.Prelude.{ℕ, ◌%◌, ◌<◌, ◌≤◌, ◌≡◌, IsTrue, List, All, AllPairs, ◌⊎◌, ◌↔◌, length}
 use Rattle.partitions.specs.declared.entry.Entry.{Entry}
-use Rattle.partitions.specs.Entry.{end_of}
-use Rattle.partitions.specs.PartitionList.{entries_of, times_listed, slot_count, is_right}
+use Rattle.partitions.specs.Entry.{factory_subtype, slot_subtype, end_of}
+use Rattle.partitions.specs.PartitionList.{max_slots, max_flash, entries_of, times_listed, slot_count, is_right}
 
 -- factory, or one of the n slots
 abbrev pub FactoryOrSlot : ℕ → ℕ → Type 0
-FactoryOrSlot n t = (t ≡ FACTORY) ⊎ ((FIRST_SLOT ≤ t) × (t < FIRST_SLOT + n))
+FactoryOrSlot n t = (t ≡ factory_subtype) ⊎ ((slot_subtype 0 ≤ t) × (t < slot_subtype n))
 
 -- the byte of the flash at x belongs to the entry
 abbrev pub Holds : Entry → ℕ → Type 0
@@ -28,10 +26,10 @@ pub record RightEntry (n capacity : ℕ) (e : Entry) : Type 0 where
 
 -- the entries: factory at most once; slots 16 to 16 + n - 1 each once, n from 2 to 16; every entry right; no byte in two of them
 pub record RightEntries (entries : List Entry) (capacity : ℕ) : Type 0 where
-  pub factory : times_listed FACTORY entries ≤ 1
+  pub factory : times_listed factory_subtype entries ≤ 1
   pub least : 2 ≤ slot_count entries
-  pub most : slot_count entries ≤ MAX_SLOTS
-  pub slots : (s : ℕ) → s < slot_count entries → times_listed (FIRST_SLOT + s) entries ≡ 1
+  pub most : slot_count entries ≤ max_slots
+  pub slots : (s : ℕ) → s < slot_count entries → times_listed (slot_subtype s) entries ≡ 1
   pub each : All (RightEntry (slot_count entries) capacity) entries
   pub separate : AllPairs ShareNoByte entries
 
@@ -39,7 +37,7 @@ pub record RightEntries (entries : List Entry) (capacity : ℕ) : Type 0 where
 pub record RightList (words : List ℕ) (capacity : ℕ) : Type 0 where
   pub triples : length words % 3 ≡ 0
   pub entries : RightEntries (entries_of words) capacity
-  pub flash : capacity ≤ MAX_FLASH
+  pub flash : capacity ≤ max_flash
 
 -- of any words and any flash, the test and the rules agree
 unfoldable pub RightMeans : Type 0
