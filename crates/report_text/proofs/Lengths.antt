@@ -1,5 +1,5 @@
 -- How long a report and its parts can be.
-use Rattle.std.proofs.Common.{◌≡◌, ℕ, zero, suc, ◌+◌, ◌/◌, ◌%◌, ◌≤◌, ◌==◌, Bool, true, false, List, [], ◌∷◌, ◌++◌, length, Option, Some, None, Ok, Err, slice_index_or, if◌then◌else◌, arith}
+use Rattle.std.proofs.Common.{◌≡◌, ℕ, zero, suc, ◌+◌, ◌/◌, ◌%◌, ◌≤◌, ◌==◌, Bool, true, false, List, [], ◌∷◌, length, Option, Some, None, Ok, Err, slice_index_or, if◌then◌else◌, arith}
 use Rattle.std.specs.Fmt.{decimal, digits, digits_onto, digit_glyph}
 use Rattle.std.proofs.lemmas.List.{length-append}
 use Rattle.otadata.specs.declared.records.Fault.TheVariants.{WrongSize, Blank, BadSequence, BadCheckWord, BadState}
@@ -20,7 +20,7 @@ digits_length zero n more = omega arith
 digits_length (suc k) n more =
     let put = digit_glyph false (n % 10) ∷ more in
     either_length (n / 10 == 0) put (digits_onto k 10 false (n / 10) put) (suc k + length more) (omega arith)
-      (omega (arith, digits_length k (n / 10) put))
+    (omega (arith, digits_length k (n / 10) put))
 
 decimal_length : (n : ℕ) → length (decimal n) ≤ 64
 unfolding digits

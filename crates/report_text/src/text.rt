@@ -27,13 +27,13 @@ impl Model for Text {
     ghost inverse = { λ text. record { bytes = padded text; len = length text } };
 
     ghost inverse_ok = { λ text h i.
-      let size = length-take-le text.len text.bytes (omega (arith, h.0, h.1)) in
-      record {
-        bytes = (ap (λ n. take text.len text.bytes ++ replicate (256 - n) 0) size
-        ∙ ap (λ rest. take text.len text.bytes ++ rest) (sym h.2)
-        ∙ take-append-drop text.len text.bytes) i;
-        len = size i;
-      } };
+        let size = length-take-le text.len text.bytes (omega (arith, h.0, h.1)) in
+        record {
+          bytes = (ap (λ n. take text.len text.bytes ++ replicate (256 - n) 0) size
+              ∙ ap (λ rest. take text.len text.bytes ++ rest) (sym h.2)
+              ∙ take-append-drop text.len text.bytes) i;
+          len = size i;
+        } };
 }
 
 impl Text {

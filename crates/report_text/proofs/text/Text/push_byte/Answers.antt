@@ -1,4 +1,4 @@
-use Rattle.std.proofs.Common.{◌+◌, length, arith, sym, ap, ◌∙◌, length-set, length-take-le, slice_set}
+use Rattle.std.proofs.Common.{◌+◌, length, arith, sym, ap, ◌∙◌, length-set, length-take-le}
 use Rattle.std.proofs.lemmas.List.{drop-set-lt}
 use Rattle.report_text.proofs.Zeros.{zeros_left}
 use Rattle.report_text.proofs.text.Text.push_byte.Goals as goal

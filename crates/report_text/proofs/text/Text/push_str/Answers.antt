@@ -11,8 +11,7 @@ invariant_of-self c =
     let more = length c.args.more.now in
     let put = c.copy_from_slice.new.self in
     let new = ap length c.copy_from_slice.ensures.after ∙ ap length c.as_bytes.ensures.value in
-    let same = drop-put_mid held.len (held.len + more - held.len) held.bytes put (held.len + more) (omega arith) (omega (arith, inv.0, inv.1)) (omega (arith, new)) in
-    (
+    let same = drop-put_mid held.len (held.len + more - held.len) held.bytes put (held.len + more) (omega arith) (omega (arith, inv.0, inv.1)) (omega (arith, new)) in (
       omega (arith, c.requires, size),
       simp (length-append, length-take, length-drop) (omega (arith, inv.0, inv.1, c.requires, size, new)),
       zeros_left held.bytes _ held.len more inv.2 same,
