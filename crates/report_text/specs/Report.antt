@@ -1,5 +1,5 @@
 -- The report on two otadata sectors, line by line.
-use Rattle.std.specs.Prelude.{ℕ, List, [], ◌∷◌, ◌++◌, codes, Option, Some, None, Ok, Err}
+use Rattle.std.specs.Prelude.{ℕ, List, ◌++◌, codes, Option, Some, None, Ok, Err, slice_index_or}
 use Rattle.std.specs.Fmt.{decimal}
 use Rattle.otadata.specs.declared.records.Record.{Record}
 use Rattle.otadata.specs.declared.records.Fault.TheVariants.{WrongSize}
@@ -31,9 +31,10 @@ abbrev pub active_line : Option SectorNumber → List ℕ
 active_line None = codes "active none\n"
 active_line (Some number) = codes "active " ++ digit_of number ++ codes "\n"
 
--- the report on the readings of both sectors
+-- the report on the readings of both sectors; a reading that is missing counts as one of a wrong size
 unfoldable pub report_of : List Reading → List ℕ
-report_of [] = []
-report_of (first ∷ []) = []
-report_of (first ∷ second ∷ rest) =
-    codes "otadata report\n" ++ sector_line Zero first ++ sector_line One second ++ active_line (active (first ∷ second ∷ rest))
+report_of readings =
+    codes "otadata report\n"
+    ++ sector_line Zero (slice_index_or readings 0 (Err WrongSize))
+    ++ sector_line One (slice_index_or readings 1 (Err WrongSize))
+    ++ active_line (active readings)

@@ -5,6 +5,7 @@ mod text;
 
 ghost use Rattle.std.specs.Prelude.{◌≡◌, ◌+◌, ◌≤◌, ◌++◌, length};
 ghost use Rattle.report_text.specs.Report.{record_text, reading_text, digit_of, sector_line, active_line, report_of};
+ghost use Rattle.report_text.specs.ReportLength.{ReportLength};
 ghost use Rattle.report_text.specs.Example.{Example};
 
 use otadata::{Fault, Reading, Record};
@@ -12,10 +13,11 @@ use sectors::SectorNumber;
 pub use text::Text;
 
 /// The report on the readings of both sectors: four lines.
-#[tactic(auto, using(crate::proofs::Example::example), unfolding(crate::specs::Report::report_of))]
+#[tactic(auto, using(crate::proofs::Example::example, crate::proofs::Lengths::report_length), unfolding(crate::specs::Report::report_of))]
 pub fn report(readings: [Reading; 2]) -> Text
     ensures exact { result ≡ report_of readings }
     ensures fits { length result ≤ 256 }
+    ensures report_length { ReportLength }
     ensures example { Example }
 {
     let [first, second] = readings;

@@ -1,24 +1,39 @@
 ghost use Rattle.std.specs.Prelude.{◌≡◌, ◌+◌, ◌≤◌, [], ◌∷◌, ◌++◌, length};
 ghost use Rattle.std.specs.Fmt.{decimal};
+ghost use Rattle.report_text.specs.Text.{padded};
 
 use std::marker::Model;
 
 /// A text of at most 256 bytes.
 // kept: a buffer with a length beside it, since the library has no heap
-#[derive(Clone, Drop)]
+#[derive(Clone, Copy)]
 pub struct Text {
     bytes: [u8; 256],
     len: usize,
 }
 
 impl Model for Text {
-    ghost use Rattle.std.specs.Prelude.{ℕ, List, ◌≤◌, take};
+    ghost use Rattle.std.specs.Prelude.{◌≡◌, ℕ, List, ◌-◌, ◌≤◌, ◌++◌, length, take, drop, replicate};
+    ghost use Rattle.std.proofs.Common.{arith, sym, ap, ◌∙◌, take-append-drop, length-take-le};
+    ghost use Rattle.report_text.specs.Text.{padded};
 
     ghost Value = { List ℕ };
 
     ghost view = { λ text. take text.len text.bytes };
 
-    ghost invariant = { λ text. text.len ≤ 256 };
+    // the bytes behind the text are zero
+    ghost invariant = { λ text. (text.len ≤ 256) × (length text.bytes ≡ 256) × (drop text.len text.bytes ≡ replicate (256 - text.len) 0) };
+
+    ghost inverse = { λ text. record { bytes = padded text; len = length text } };
+
+    ghost inverse_ok = { λ text h i.
+        let size = length-take-le text.len text.bytes (omega (arith, h.0, h.1)) in
+        record {
+          bytes = (ap (λ n. take text.len text.bytes ++ replicate (256 - n) 0) size
+              ∙ ap (λ rest. take text.len text.bytes ++ rest) (sym h.2)
+              ∙ take-append-drop text.len text.bytes) i;
+          len = size i;
+        } };
 }
 
 impl Text {
@@ -36,6 +51,20 @@ impl Text {
         ensures { result.now ≡ self.now }
     {
         &self.bytes[..self.len]
+    }
+
+    /// Its whole buffer: its bytes, and zeros after them.
+    pub fn padded(&self) -> &[u8; 256]
+        ensures { result.now ≡ padded self.now }
+    {
+        &self.bytes // with the zeros after the text
+    }
+
+    /// How many bytes it has.
+    pub fn len(&self) -> usize
+        ensures { result ≡ length self.now }
+    {
+        self.as_bytes().len()
     }
 
     /// Puts more text at the end.
