@@ -3,6 +3,7 @@ use Rattle.std.proofs.Common.{◌≡◌, ℕ, List, [], ◌∷◌, length, Optio
 use Rattle.std.proofs.lemmas.Bool.Decides.{nat_tests}
 use Rattle.std.specs.Int.Count.{ones_in}
 use Rattle.efuse.specs.Register.{width, set_lowest, raised}
+use Rattle.otadata.specs.declared.records.Fault.{Fault}
 use Rattle.otadata.specs.declared.states.State.TheVariants.{Aborted}
 use Rattle.otadata.specs.Record.{Reading}
 use Rattle.partitions.specs.declared.list.App.TheVariants.{OtaSlot}
@@ -34,28 +35,28 @@ falls_back node a b two passes =
 
 -- ---- the last search
 
-abbrev aborted_alone : List Reading
-aborted_alone = good 5 Aborted [] ∷ no_record ∷ []
+abbrev aborted_alone : Fault → List Reading
+aborted_alone b = good 5 Aborted [] ∷ no_record b ∷ []
 
-module _ (node : Node) (facts : Facts) (two : slots_of node ≡ 2) where
-  slot_0_barred : candidate node aborted_alone (record { 0 = 0 }) ≡ None
+module _ (node : Node) (facts : Facts) (b : Fault) (two : slots_of node ≡ 2) where
+  slot_0_barred : candidate node (aborted_alone b) (record { 0 = 0 }) ≡ None
   unfolding candidate is_barred
   slot_0_barred = rw two refl
 
-  slot_1_found : passing node (OtaSlot slot_1) ≡ Some facts → candidate node aborted_alone slot_1 ≡ Some (Found slot_1 facts)
+  slot_1_found : passing node (OtaSlot slot_1) ≡ Some facts → candidate node (aborted_alone b) slot_1 ≡ Some (Found slot_1 facts)
   unfolding candidate is_barred
   slot_1_found passes = rw (two, passes) refl
 
 passes_over : PassesOver
 unfolding choice through_active through_reading factory last_search first_from
-passes_over node facts two passes no_factory =
-    rw (two, no_factory, slot_0_barred node facts two, slot_1_found node facts two passes) refl
+passes_over node facts b two passes no_factory =
+    rw (two, no_factory, slot_0_barred node facts b two, slot_1_found node facts b two passes) refl
 
 -- ---- the register
 
-raises : (facts : Facts) → facts.version.0 ≡ 4 → Raises facts
+raises : (a b : Fault) (facts : Facts) → facts.version.0 ≡ 4 → Raises a b facts
 unfolding width raised set_lowest ones_in
-raises facts is = record { on_32_bits = rw is refl; on_16_bits = rw is refl; not_with_a_record = λ chip. refl }
+raises a b facts is = record { on_32_bits = rw is refl; on_16_bits = rw is refl; not_with_a_record = λ chip. refl }
 
 -- ---- an empty list
 

@@ -1,7 +1,7 @@
 -- The definitions of boot on examples.
 use Rattle.std.specs.Prelude.{ℕ, ◌≡◌, true, List, [], ◌∷◌, Some, None, Ok, Err}
 use Rattle.otadata.specs.declared.records.Slot.{Slot}
-use Rattle.otadata.specs.declared.records.Fault.TheVariants.{Blank}
+use Rattle.otadata.specs.declared.records.Fault.{Fault}
 use Rattle.otadata.specs.declared.states.State.{State}
 use Rattle.otadata.specs.declared.states.State.TheVariants.{New, Valid, Aborted}
 use Rattle.otadata.specs.Record.{Reading}
@@ -25,9 +25,9 @@ slot_1 = record { 0 = 1 }
 abbrev pub good : ℕ → State → List ℕ → Reading
 good q state label = Ok (record { sequence = record { 0 = q }; label = label; state = state })
 
--- what a blank sector reads as
-abbrev pub no_record : Reading
-no_record = Err Blank
+-- what a sector without a good record reads as, by what is wrong there
+abbrev pub no_record : Fault → Reading
+no_record fault = Err fault
 
 -- ---- a fall back
 
@@ -42,30 +42,30 @@ FallsBack =
 
 -- ---- the last search
 
--- it passes over slot 0, which an aborted record names, and takes slot 1, where factory does not pass
+-- it passes over slot 0, which an aborted record names, and takes slot 1, where factory does not pass; whatever is wrong in sector 1
 abbrev pub PassesOver : Type 0
 PassesOver =
-    (node : Node) (facts : Facts) → slots_of node ≡ 2 → passing node (OtaSlot slot_1) ≡ Some facts → passing node FactoryApp ≡ None
-    → choice node (good 5 Aborted [] ∷ no_record ∷ []) ≡ Some (Found slot_1 facts)
+    (node : Node) (facts : Facts) (b : Fault) → slots_of node ≡ 2 → passing node (OtaSlot slot_1) ≡ Some facts → passing node FactoryApp ≡ None
+    → choice node (good 5 Aborted [] ∷ no_record b ∷ []) ≡ Some (Found slot_1 facts)
 
 -- ---- the register
 
 abbrev pub protected : ℕ → ℕ → Settings
 protected chip efuse = record { board = board_of chip 0; efuse = efuse; rollback = true; anti_rollback = true }
 
--- the last search raises the register to its app's version, 4, while neither sector holds a good record; above the width of the chip the
--- ones neither count nor change
-pub record Raises (facts : Facts) : Type 0 where
-  pub on_32_bits : register_after (protected 0 0x0B) (no_record ∷ no_record ∷ []) (Found slot_1 facts) ≡ 0x0F
-  pub on_16_bits : register_after (protected 16 0xFFFF000B) (no_record ∷ no_record ∷ []) (Found slot_1 facts) ≡ 0xFFFF000F
-  pub not_with_a_record : (chip : ℕ) → register_after (protected chip 0x0B) (no_record ∷ good 5 Aborted [] ∷ []) (Found slot_1 facts) ≡ 0x0B
+-- the last search raises the register to its app's version, 4, while neither sector holds a good record, whatever is wrong in each; above
+-- the width of the chip the ones neither count nor change
+pub record Raises (a b : Fault) (facts : Facts) : Type 0 where
+  pub on_32_bits : register_after (protected 0 0x0B) (no_record a ∷ no_record b ∷ []) (Found slot_1 facts) ≡ 0x0F
+  pub on_16_bits : register_after (protected 16 0xFFFF000B) (no_record a ∷ no_record b ∷ []) (Found slot_1 facts) ≡ 0xFFFF000F
+  pub not_with_a_record : (chip : ℕ) → register_after (protected chip 0x0B) (no_record a ∷ good 5 Aborted [] ∷ []) (Found slot_1 facts) ≡ 0x0B
 
 -- ---- all of them
 
 pub record BootExamples : Type 0 where
   pub falls_back : FallsBack
   pub passes_over : PassesOver
-  pub raises : (facts : Facts) → facts.version.0 ≡ 4 → Raises facts
+  pub raises : (a b : Fault) (facts : Facts) → facts.version.0 ≡ 4 → Raises a b facts
   -- the higher sequence is active, and sector 0 on a tie
   pub higher : active (good 4 Valid [] ∷ good 5 New [] ∷ []) ≡ Some One
   pub tie : active (good 4 Valid [] ∷ good 4 New [] ∷ []) ≡ Some Zero

@@ -1,3 +1,4 @@
 pub mod Examples
+pub mod Order
 pub mod SameTests
 pub mod Search

@@ -66,8 +66,8 @@ pub fn choose(
     Choice::of(&Node { list, settings }, readings)
 }
 
-/// Whether something is chosen.
-pub fn chosen(choice: Option<Choice>) -> bool
+/// Whether something is chosen, be it a `Choice` or of any other type.
+pub fn chosen<T: Drop>(choice: Option<T>) -> bool
     ensures { result ≡ is_some choice }
 {
     choice.is_some()
