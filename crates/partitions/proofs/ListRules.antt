@@ -5,7 +5,6 @@ use Rattle.std.specs.Simd.{first_chunks}
 use Rattle.std.proofs.lemmas.Bool.Decides.{nat_tests}
 use Rattle.std.proofs.lemmas.Grind.{common_steps}
 use Rattle.std.proofs.lemmas.List.Sums.{sum_by-cons}
-use Rattle.partitions.specs.declared.TheConstants.{MAX_FLASH}
 use Rattle.partitions.specs.declared.entry.Entry.{Entry}
 use Rattle.partitions.specs.Entry.{entry_of, end_of, entry_bytes, is_factory, keeps_rules}
 use Rattle.partitions.specs.PartitionList.{max_slots, max_flash, entries_of, keep_rules, slot_count, times_listed, entry_with, all_keep_rules, is_right, Partitions, list_of}
@@ -41,11 +40,11 @@ bytes_fit entries flash e keeps =
     grind (arith, common_steps, fits)
 
 -- the same of the words
-pub part_fits : (words flash : List ℕ) (list : Partitions) (e : Entry) → list_of words flash ≡ Ok list → length (entry_bytes e flash) ≤ MAX_FLASH
+pub part_fits : (words flash : List ℕ) (list : Partitions) (e : Entry) → list_of words flash ≡ Ok list → length (entry_bytes e flash) ≤ max_flash
 unfolding list_of is_right
 part_fits words flash list e accepted = by (is_right words (length flash)) refl
   where
-    by : (right : Bool) → is_right words (length flash) ≡ right → length (entry_bytes e flash) ≤ MAX_FLASH
+    by : (right : Bool) → is_right words (length flash) ≡ right → length (entry_bytes e flash) ≤ max_flash
     by true right = bytes_fit (entries_of words) flash e (grind (arith, nat_tests))
     by false right = grind (arith, accepted, right)
 
