@@ -3,6 +3,7 @@ use Rattle.std.specs.Prelude.{ℕ, zero, suc, ◌+◌, Bool, false, not, ◌&&�
 use Rattle.std.specs.Option.{option_or}
 use Rattle.std.specs.List.{list_any}
 use Rattle.otadata.specs.declared.records.Slot.{Slot}
+use Rattle.otadata.specs.declared.records.Fault.TheVariants.{WrongSize}
 use Rattle.otadata.specs.State.{is_usable}
 use Rattle.otadata.specs.Record.{Reading, slot_of}
 use Rattle.sectors.specs.declared.reading.SectorNumber.{SectorNumber}
@@ -36,14 +37,14 @@ through_reading node one = option_and_then (λ q. through_slot node one.0 (slot_
 abbrev pub through_either : Node → SectorNumber × Reading → SectorNumber × Reading → Option Choice
 through_either node one other = option_or (through_reading node one) (through_reading node other)
 
--- the active record's slot, then that of the other usable record
+-- the active record's slot, then that of the other usable record; a missing reading counts as none
 abbrev pub in_order : Node → Reading → Reading → SectorNumber → Option Choice
 in_order node first second Zero = through_either node (Zero, first) (One, second)
 in_order node first second One = through_either node (One, second) (Zero, first)
 
 unfoldable pub through_active : Node → List Reading → Option Choice
 through_active node [] = None
-through_active node (first ∷ []) = None
+through_active node (first ∷ []) = option_and_then (in_order node first (Err WrongSize)) (active (first ∷ []))
 through_active node (first ∷ second ∷ rest) = option_and_then (in_order node first second) (active (first ∷ second ∷ rest))
 
 -- ---- factory, if listed

@@ -62,6 +62,8 @@ pub fn store(sector: &mut [u8], bytes: &[u8], m: usize) -> Result<(), Refusal>
 /// # Errors
 ///
 /// `WrongSize`; nothing is written then.
+// One copy of the loop serves every caller: copies within the callers took a third longer.
+#[inline(never)]
 #[tactic(auto, using(crate::proofs::Stores::cut_none, crate::proofs::Stores::turn_done, crate::proofs::Stores::turn_refused, crate::proofs::ReadingLaw::finished_law, crate::proofs::ReadingLaw::reading_law))]
 pub fn rewrite(sector: &mut [u8], bytes: &[u8]) -> Result<(), Refusal>
     ensures reply { result ≡ done (rewrite sector.old bytes.now) }

@@ -25,7 +25,8 @@ settled_reading settings reading = if settings.rollback && in_state Pending read
 -- both readings, where the record of sector k is invalid
 abbrev pub with_invalid : SectorNumber → List Reading → List Reading
 with_invalid k [] = []
-with_invalid k (first ∷ []) = []
+with_invalid Zero (first ∷ []) = in_other_state Invalid first ∷ []
+with_invalid One (first ∷ []) = first ∷ []
 with_invalid Zero (first ∷ second ∷ rest) = in_other_state Invalid first ∷ second ∷ []
 with_invalid One (first ∷ second ∷ rest) = first ∷ in_other_state Invalid second ∷ []
 

@@ -1,7 +1,8 @@
 -- The state query and the next update slot. They write nothing.
-use Rattle.std.specs.Prelude.{ℕ, ◌+◌, ◌%◌, List, [], ◌∷◌, length, Option, None, option_map, option_and_then, ok_or, Result, Ok}
+use Rattle.std.specs.Prelude.{ℕ, ◌+◌, ◌%◌, List, [], ◌∷◌, length, Option, None, option_map, option_and_then, ok_or, Result, Ok, Err}
 use Rattle.std.specs.Result.{result_ok}
 use Rattle.otadata.specs.declared.records.Slot.{Slot}
+use Rattle.otadata.specs.declared.records.Fault.TheVariants.{WrongSize}
 use Rattle.otadata.specs.declared.states.State.{State}
 use Rattle.otadata.specs.Record.{Reading}
 use Rattle.sectors.specs.declared.reading.SectorNumber.{SectorNumber}
@@ -27,7 +28,7 @@ state_in first second One = option_map (λ r. r.state) (result_ok second)
 -- the active record's state if it names the slot, else that of the good record of highest sequence that names it
 unfoldable pub state_naming : ℕ → Slot → List Reading → Option State
 state_naming n slot [] = None
-state_naming n slot (first ∷ []) = None
+state_naming n slot (first ∷ []) = option_and_then (state_in first (Err WrongSize)) (naming_record n slot (first ∷ []))
 state_naming n slot (first ∷ second ∷ rest) = option_and_then (state_in first second) (naming_record n slot (first ∷ second ∷ rest))
 
 -- 1, 2, 4 and 8
