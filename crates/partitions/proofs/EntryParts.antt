@@ -1,5 +1,5 @@
 -- The law of the parts: each subtype of a right list is listed once, so an app's part is that of the entry of its subtype.
-use Rattle.std.proofs.Common.{◌≡◌, subst, ℕ, ◌+◌, ◌-◌, ◌≤◌, zero, suc, Bool, true, false, cond, ◌==◌, List, [], ◌∷◌, Some, Contains, All, inl, inr, find, count_by, length, refl, Option, None, Ok, option_map, unwrap_or, if◌then◌else◌, arith}
+use Rattle.std.proofs.Common.{◌≡◌, subst, ℕ, ◌-◌, ◌≤◌, zero, suc, Bool, true, false, cond, ◌==◌, List, [], ◌∷◌, Some, Contains, All, inl, inr, find, count_by, length, refl, Option, None, option_map, unwrap_or, if◌then◌else◌, arith}
 use Rattle.std.proofs.lemmas.Bool.Decides.{nat_tests}
 use Rattle.std.proofs.lemmas.Grind.{common_steps}
 use Rattle.std.proofs.lemmas.List.Sums.{sum_by-cons}
@@ -7,7 +7,7 @@ use Rattle.sectors.specs.Part.{Part}
 use Rattle.partitions.specs.declared.entry.Entry.{Entry}
 use Rattle.partitions.specs.declared.list.App.{App}
 use Rattle.partitions.specs.Entry.{slot_subtype, end_of, entry_bytes, entry_part}
-use Rattle.partitions.specs.PartitionList.{Partitions, max_flash, entries_of, times_listed, slot_count, is_right, list_of, subtype_of, entry_with, image_of, empty_part, part_or_empty, app_part}
+use Rattle.partitions.specs.PartitionList.{max_flash, entries_of, times_listed, slot_count, is_right, list_of, subtype_of, entry_with, image_of, empty_part, part_or_empty, app_part}
 use Rattle.partitions.specs.RightList.{FactoryOrSlot, RightEntry, RightEntries}
 use Rattle.partitions.specs.EntryParts.{app_of, EntryParts, ImageIsPart}
 use Rattle.partitions.proofs.ListRules.{bytes_fit}

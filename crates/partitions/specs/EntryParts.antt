@@ -1,5 +1,5 @@
 -- The laws of the parts: each entry of a right list has exactly its part of the flash, as the part of its app; and an app's image is that part's bytes.
-use Rattle.std.specs.Prelude.{ℕ, ◌-◌, ◌==◌, ◌≡◌, IsTrue, List, Contains, [], Some, unwrap_or, Result, Ok, length, if◌then◌else◌}
+use Rattle.std.specs.Prelude.{ℕ, ◌-◌, ◌==◌, ◌≡◌, IsTrue, List, Contains, [], Some, unwrap_or, Ok, length, if◌then◌else◌}
 use Rattle.sectors.specs.Part.{Part}
 use Rattle.partitions.specs.declared.entry.Entry.{Entry}
 use Rattle.partitions.specs.declared.list.App.{App}

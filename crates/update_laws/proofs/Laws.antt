@@ -425,8 +425,7 @@ pub falls_back_law : FallsBackLaw
 unfolding FallsBackLaw
 falls_back_law g node k is_node =
     let both = by_choice node.settings (found g node k is_node) (choice node (found g node k is_node)) in
-    let same = same_found g node k is_node in
-    (
+    let same = same_found g node k is_node in (
       λ nothing. ap (choice node) same ∙ both.0 (sym (boot_replies g node k is_node) ∙ nothing),
       λ none. boot_replies g node k is_node ∙ both.1 (sym (ap (choice node) same) ∙ none),
     )

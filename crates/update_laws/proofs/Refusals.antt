@@ -1,5 +1,5 @@
 -- A refusal changes no byte, and leaves the register as it was given.
-use Rattle.std.proofs.Common.{◌≡◌, ℕ, List, ◌++◌, length, take, drop, slice_index, take-append-drop, Option, Result, Ok, Err, refl, ap}
+use Rattle.std.proofs.Common.{◌≡◌, ℕ, List, ◌++◌, length, take, drop, take-append-drop, Option, Result, Ok, Err, refl, ap}
 use Rattle.otadata.specs.declared.records.Slot.{Slot}
 use Rattle.sectors.specs.declared.reading.SectorNumber.{SectorNumber}
 use Rattle.sectors.specs.declared.reading.SectorNumber.TheVariants.{Zero, One}
@@ -9,8 +9,7 @@ use Rattle.node.specs.declared.Node.{Node}
 use Rattle.node.specs.declared.refusal.Refusal.{Refusal}
 use Rattle.slot_records.specs.declared.Placement.{Placement}
 use Rattle.update.specs.declared.Completion.{Completion}
-use Rattle.node.specs.Refused.{keeping_register}
-use Rattle.update.specs.Answer.{register_in, register_of, register_given}
+use Rattle.update.specs.Answer.{register_of, register_given}
 use Rattle.update.specs.Tests.{node_with}
 use Rattle.update.specs.SetBoot.{decision, reply_to as set_reply_to, left_at as set_left_at, reply_in as set_reply_in, bytes_in as set_bytes_in, set_boot_reply, set_boot_bytes}
 use Rattle.update.specs.Marks.{confirmation, reply_to as valid_reply_to, left_at as valid_left_at, reply_in as valid_reply_in, bytes_in as valid_bytes_in, mark_valid_reply, mark_valid_bytes}
