@@ -5,3 +5,4 @@ pub mod FieldBytes
 pub mod ByBits
 pub mod OneVerdict
 pub mod Examples
+pub mod Tables

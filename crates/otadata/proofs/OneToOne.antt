@@ -55,7 +55,7 @@ steps_one_to_one zero a b below_a below_b same = same
 steps_one_to_one (suc n) a b below_a below_b same =
     step_one_to_one a b below_a below_b (steps_one_to_one n (step a) (step b) (step-lt a below_a) (step-lt b below_b) same)
 
-steps-lt : (n r : ℕ) → r < 2 ^ 32 → steps n r < 2 ^ 32
+pub steps-lt : (n r : ℕ) → r < 2 ^ 32 → steps n r < 2 ^ 32
 unfolding steps
 steps-lt zero r below = below
 steps-lt (suc n) r below = steps-lt n (step r) (step-lt r below)
